@@ -1,0 +1,14 @@
+pub mod NetChanges
+pub mod Sorted
+pub mod SortedMaps
+pub mod NetLists
+pub mod Redoing
+pub mod Doing
+pub mod Lines
+pub mod Images
+pub mod Moving
+pub mod Net
+pub mod WholeLog
+pub mod Restarting
+pub mod Opened
+pub mod Kernels

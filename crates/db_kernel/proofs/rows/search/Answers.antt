@@ -1,0 +1,15 @@
+use Rattle.std.proofs.Common.{rules}
+use Rattle.std.proofs.lemmas.Fn.{always_returns_same}
+use Rattle.mdb_model.specs.Tables.{place_cmp}
+use Rattle.db_kernel.specs.Rows.{row_place}
+use Rattle.db_kernel.proofs.Sorted.{searched, sorted_from_rises}
+use Rattle.db_kernel.proofs.NetChanges.{place_total}
+use Rattle.db_kernel.proofs.rows.search.Goals as goal
+
+-- the closure gives how a row's place stands to the one that is sought
+pub returns : goal.returns
+returns c =
+    let sorted = sorted_from_rises place_cmp row_place (λ row. row.value) c.args.rows.now c.requires in
+    let by_place = c.binary_search_by.ensures.position (λ row. place_cmp (row_place row) (c.args.table.0, c.args.key.now)) (always_returns_same _ _ _ (λ a r f called. search rules)) in
+    let place = searched place_cmp row_place (λ row. row.value) place_total c.args.rows.now sorted (c.args.table.0, c.args.key.now) c.binary_search_by.result c.binary_search_by.ensures.bound by_place in
+    record { found = place.0; absent = place.1 }

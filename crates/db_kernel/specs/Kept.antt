@@ -1,0 +1,96 @@
+-- What a kernel keeps, against the worlds that may be.
+--     IsWholeLog, Ready      the numbers of an open database fit each other
+--     IsAt, AreOff, Fits      a kernel with an open database, and one with none, against the worlds that may be
+--     Meets      the log of an open database is there
+--     as_refusal      how a fault is answered
+--     IsFirstStart, StartIs, RingIs, IsOf, OpenedIs      what opening a log of these commits gives
+use Rattle.std.specs.Prelude.{◌≡◌, ℕ, ◌<◌, ◌≤◌, List, length, Option, Some, None, Result, Ok, Err, All}
+use Rattle.std.specs.FinMap.{empty}
+use Rattle.mdb_model.specs.declared.change.Commit.{Commit}
+use Rattle.mdb_model.specs.declared.script.Refusal.{Refusal}
+use Rattle.mdb_model.specs.declared.fault.OpenFault.{OpenFault}
+use Rattle.mdb_model.specs.declared.fault.OpenFault.TheVariants.{Memory, Failed as OpenFailed, Damaged as OpenDamaged}
+use Rattle.mdb_model.specs.declared.script.Refusal.TheVariants.{Damaged, DeviceFailed, MemoryWanting}
+use Rattle.mdb_model.specs.Images.{Image}
+use Rattle.mdb_model.specs.Tables.{with_commits}
+use Rattle.mdb_model.specs.Worlds.{World, off}
+use Rattle.mdb_bytes.specs.LogAlone.{first_name}
+use Rattle.mdb_bytes.specs.LogReading.{log_bytes}
+use Rattle.mdb_bytes.specs.Rings.{HasRing}
+use Rattle.redo_ring.specs.declared.ring.Ring.{Ring}
+use Rattle.redo_ring.specs.declared.open.LogStart.{LogStart}
+use Rattle.redo_ring.specs.Calls.{InOrder}
+use Rattle.redo_ring.specs.Opening.{ring_size}
+use Rattle.db_kernel.specs.declared.database.Database.{Database}
+use Rattle.db_kernel.specs.Working.{IsOpenNet}
+
+-- the log of a database that has all its records in it: nothing is saved, and a restart reads it from its first position on
+pub record IsWholeLog (ring : Ring) : Type 0 where
+  pub order : InOrder ring
+  pub name : ring.name ≡ first_name
+  pub redo : ring.redo_position ≡ 0
+  pub saved : ring.saved_position ≡ 0
+  pub room : ring.end_position < ring.size
+
+abbrev pub Ready : Option Database → Type 0
+Ready None = Unit {0}
+Ready (Some database) = IsWholeLog database.ring
+
+abbrev pub IsAt : Database → List World → Type 0
+IsAt database ws = IsOpenNet database.rows.rows database.transaction database.ring.size database.ring.end_position database.ring.last_commit ws
+
+abbrev pub AreOff : List World → Type 0
+AreOff ws = All (λ w. off w ≡ w) ws
+
+abbrev pub Fits : Option Database → List World → Type 0
+Fits None ws = AreOff ws
+Fits (Some database) ws = IsAt database ws
+
+abbrev pub Meets : Option Database → Image → Type 0
+Meets None image = Unit {0}
+Meets (Some database) image = HasRing database.ring.size image
+
+-- Opening
+
+-- how a fault is answered
+abbrev pub as_refusal : OpenFault → Refusal
+as_refusal Memory = MemoryWanting
+as_refusal OpenFailed = DeviceFailed
+as_refusal (OpenDamaged damage) = Damaged damage
+
+-- a start from the first position on
+pub record IsFirstStart (start : LogStart) : Type 0 where
+  pub name : start.name ≡ first_name
+  pub least : 4 ≤ start.pages
+  pub most : start.pages ≤ 65536
+  pub position : start.position ≡ 0
+  pub commit : start.commit ≡ 0
+  pub saved_position : start.saved_position ≡ 0
+  pub saved_commit : start.saved_commit ≡ 0
+
+-- a log volume with a ring of this size is found
+abbrev pub StartIs : (size : ℕ) → Result LogStart Refusal → Type 0
+StartIs size (Ok start) = ring_size start.pages ≡ size
+StartIs size (Err DeviceFailed) = Unit {0}
+StartIs size (Err _) = ⊥
+
+-- a log of these commits is opened
+abbrev pub RingIs : (size : ℕ) → List Commit → Result Ring Refusal → Type 0
+RingIs size commits (Ok ring) = (ring.size ≡ size) × (ring.end_position ≡ log_bytes commits) × (ring.last_commit ≡ length commits)
+RingIs size commits (Err DeviceFailed) = Unit {0}
+RingIs size commits (Err MemoryWanting) = Unit {0}
+RingIs size commits (Err _) = ⊥
+
+-- and its rows are made
+pub record IsOf (size : ℕ) (commits : List Commit) (database : Database) : Type 0 where
+  pub same_size : database.ring.size ≡ size
+  pub at_end : database.ring.end_position ≡ log_bytes commits
+  pub at_last : database.ring.last_commit ≡ length commits
+  pub rows : database.rows.rows ≡ with_commits commits empty
+  pub none : database.transaction ≡ empty
+
+abbrev pub OpenedIs : (size : ℕ) → List Commit → Result Database Refusal → Type 0
+OpenedIs size commits (Ok database) = IsOf size commits database
+OpenedIs size commits (Err DeviceFailed) = Unit {0}
+OpenedIs size commits (Err MemoryWanting) = Unit {0}
+OpenedIs size commits (Err _) = ⊥

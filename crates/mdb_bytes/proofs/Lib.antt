@@ -1,0 +1,15 @@
+pub mod Decoding
+pub mod ReadBack
+pub mod GroupLaw
+pub mod GroupBack
+pub mod LogLaw
+pub mod NumberBytes
+pub mod ChangeFront
+pub mod Booleans
+pub mod ChangeRuns
+pub mod GroupFront
+pub mod RunLaw
+pub mod GroupChecked
+pub mod Written
+pub mod EntryLaw
+pub mod LogFacts

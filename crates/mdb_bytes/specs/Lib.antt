@@ -1,0 +1,10 @@
+pub mod Fields
+pub mod Groups
+pub mod LogReading
+pub mod Rings
+pub mod LogAlone
+pub mod LoggedChanges
+pub mod ChangeHeads
+pub mod GroupHeads
+pub mod ChangeOrder
+pub mod ChangeEntries

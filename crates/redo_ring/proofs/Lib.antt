@@ -1,0 +1,4 @@
+pub mod Places
+pub mod Log
+pub mod Found
+pub mod Ends

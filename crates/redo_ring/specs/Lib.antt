@@ -1,0 +1,5 @@
+pub mod Ring
+pub mod Calls
+pub mod Reading
+pub mod Opening
+pub mod Ends

@@ -1,0 +1,183 @@
+//! Reading the log, group by group.
+ghost use Rattle.std.specs.Prelude.{◌≡◌, ◌↔◌, ℕ, ◌+◌, ◌≤◌, ◌<◌, ◌^◌, List, ◌++◌, length, Err, IfOk, OnOk, IsTrue, true};
+ghost use Rattle.mdb_model.specs.Causes.{Rose, HasCause};
+ghost use Rattle.mdb_model.specs.declared.change.Commit.{Commit};
+ghost use Rattle.mdb_host.specs.Disk.{Disk, Goes as Runs, Agree};
+ghost use Rattle.mdb_bytes.specs.LogReading.{IsLog, log_bytes};
+ghost use Rattle.mdb_bytes.specs.Rings.{HasRing, IsRingSize, ring_byte};
+ghost use Rattle.redo_ring.specs.Ring.{HasGroup, StandsAt, damage_at};
+ghost use Rattle.redo_ring.specs.Reading.{IsReader, Finds, Goes, IsNextOf, WalkFinds, WalkEnds};
+
+use crate::pieces::read_ring;
+use mdb_bytes::{GroupBuf, group_len, is_due};
+use mdb_host::{Device, Failed, Host};
+use mdb_model::fault::{Damage, PageFault, Rule};
+use mdb_model::name::Name;
+
+// The gate of a group that counts.
+const OPEN: u8 = 0x4F;
+
+// The bytes of a group's head, its gate included.
+const HEAD: usize = 33;
+
+// The bytes that a group may have at most.
+const MOST: u64 = 1_048_576;
+
+/// Reads the groups of a log from a position on, up to the first closed gate.
+#[derive(Clone, Copy, Debug, PartialEq, Eq)]
+pub struct RingReader {
+    /// The database whose groups are due.
+    pub name: Name,
+    /// The bytes of the ring.
+    pub size: u64,
+    /// Where it began: all groups from there on have together fewer bytes than the ring.
+    pub start: u64,
+    /// The gate that it stands at.
+    pub position: u64,
+    /// The number of the commit before.
+    pub number: u64,
+}
+
+impl RingReader {
+    /// Reads the next group into `into`, with its gate; false at a closed gate. Where a device
+    /// fails, or where bytes that are not the group that is due stand behind an open gate, the
+    /// reader stays where it is, and `into` has anything.
+    pub fn next<H: Host>(&mut self, host: &mut H, into: &mut GroupBuf) -> Result<bool, PageFault>
+        requires order { IsReader self.old }
+        requires ring { H.tells → HasRing self.old.size (H.disk host.old).seen }
+        ensures order { IsReader self.new }
+        ensures calm { H.tells → Runs (H.disk host.old) (H.disk host.new) Agree }
+        ensures seen { H.tells → Agree (H.disk host.old).seen (H.disk host.new).seen }
+        ensures group { IfOk result (λ more. more ≡ true → HasGroup self.old.name (self.old.number + 1) into.new) }
+        ensures goes { Goes self.old self.new into.new result }
+        ensures finds { H.tells → Finds self.old.size self.old.name (ring_byte self.old.size (H.disk host.old).seen) self.old.start self.old.position self.old.number into.new result }
+        ensures next { H.tells → (commits : List Commit) → IsLog (ring_byte self.old.size (H.disk host.old).seen) self.old.name self.old.position self.old.number commits
+            → self.old.position + log_bytes commits < self.old.start + self.old.size
+            → IsNextOf self.old.size self.old.name (ring_byte self.old.size (H.disk host.old).seen) self.old.position self.old.number into.new commits result }
+        ensures later { H.faults host.old ≤ H.faults host.new }
+        ensures cause { result ≡ Err PageFault.Failed → Rose (H.faults host.old) (H.faults host.new) }
+    {
+        let mut head = [0u8; HEAD];
+        let Ok(()) = read_ring(host, self.size, self.position, &mut head) else {
+            return Err(PageFault::Failed);
+        };
+        if head[0] != OPEN {
+            return Ok(false);
+        }
+        let bytes = group_len(&head) as u64;
+        if !self.has_room(bytes) {
+            return Err(self.damage());
+        }
+        let Ok(()) = read_group(host, self.size, self.position, bytes, into) else {
+            return Err(PageFault::Failed);
+        };
+        if !is_due(into.bytes(), self.name, self.number + 1) {
+            return Err(self.damage());
+        }
+        self.position += bytes;
+        self.number += 1;
+        Ok(true)
+    }
+
+    // Whether a group of so many bytes can stand at the position.
+    fn has_room(&self, bytes: u64) -> bool
+        requires order { IsReader self.now }
+        requires small { bytes < 2 ^ 32 }
+        ensures { IsTrue result ↔ ((33 ≤ bytes) × (bytes ≤ 1048576) × (self.now.position + bytes < self.now.start + self.now.size)) }
+    {
+        HEAD as u64 <= bytes && bytes <= MOST && self.position + bytes < self.start + self.size
+    }
+
+    // The gate is open before bytes that are not the group that is due.
+    fn damage(&self) -> PageFault
+        requires { IsReader self.now }
+        ensures { result ≡ PageFault.Damaged (damage_at self.now.size self.now.position) }
+    {
+        PageFault::Damaged(Damage {
+            device: Device::Log,
+            page: (2 + self.position % self.size / 8192) as u32,
+            rule: Rule::Group,
+        })
+    }
+}
+
+// Reads a few bytes of the ring behind those that are there.
+fn read_more<H: Host>(
+    host: &mut H,
+    size: u64,
+    position: u64,
+    count: usize,
+    into: &mut GroupBuf,
+) -> Result<(), Failed>
+    requires size { IsRingSize size }
+    requires one_call { count ≤ 8192 }
+    requires room { length into.old + count ≤ 1048576 }
+    requires ring { H.tells → HasRing size (H.disk host.old).seen }
+    ensures calm { H.tells → Runs (H.disk host.old) (H.disk host.new) Agree }
+    ensures seen { H.tells → Agree (H.disk host.old).seen (H.disk host.new).seen }
+    ensures added { OnOk result ((bytes : List ℕ) × (length bytes ≡ count) × (into.new ≡ into.old ++ bytes) × (H.tells → StandsAt (ring_byte size (H.disk host.old).seen) position bytes)) }
+    ensures cause { HasCause (H.faults host.old) (H.faults host.new) result }
+{
+    let mut piece = [0u8; 8192];
+    let (bytes, _) = piece.split_at_mut(count);
+    read_ring(host, size, position, bytes)?;
+    into.append(bytes);
+    Ok(())
+}
+
+// Reads so many bytes of the ring.
+fn read_group<H: Host>(
+    host: &mut H,
+    size: u64,
+    position: u64,
+    bytes: u64,
+    into: &mut GroupBuf,
+) -> Result<(), Failed>
+    requires size { IsRingSize size }
+    requires low { position < 2 ^ 63 }
+    requires room { bytes ≤ 1048576 }
+    requires ring { H.tells → HasRing size (H.disk host.old).seen }
+    ensures calm { H.tells → Runs (H.disk host.old) (H.disk host.new) Agree }
+    ensures seen { H.tells → Agree (H.disk host.old).seen (H.disk host.new).seen }
+    ensures len { OnOk result (length into.new ≡ bytes) }
+    ensures bytes { OnOk result (H.tells → StandsAt (ring_byte size (H.disk host.old).seen) position into.new) }
+    ensures cause { HasCause (H.faults host.old) (H.faults host.new) result }
+{
+    into.clear();
+    let mut done = 0;
+    while done < bytes {
+        let count = (bytes - done).min(8192);
+        read_more(host, size, position + done, count as usize, into)?;
+        done += count;
+    }
+    Ok(())
+}
+
+/// Reads all groups up to the closed gate.
+pub(crate) fn walk<H: Host>(
+    host: &mut H,
+    reader: &mut RingReader,
+    into: &mut GroupBuf,
+) -> Result<(), PageFault>
+    requires order { IsReader reader.old }
+    requires begins { reader.old.position ≡ reader.old.start }
+    requires ring { H.tells → HasRing reader.old.size (H.disk host.old).seen }
+    ensures order { IsReader reader.new }
+    ensures same { (reader.new.name ≡ reader.old.name) × (reader.new.size ≡ reader.old.size) × (reader.new.start ≡ reader.old.start) }
+    ensures calm { H.tells → Runs (H.disk host.old) (H.disk host.new) Agree }
+    ensures seen { H.tells → Agree (H.disk host.old).seen (H.disk host.new).seen }
+    ensures finds { H.tells → WalkFinds reader.old.size reader.old.name (ring_byte reader.old.size (H.disk host.old).seen) reader.old.start reader.old.number reader.new.position reader.new.number result }
+    ensures ends { H.tells → (commits : List Commit) → IsLog (ring_byte reader.old.size (H.disk host.old).seen) reader.old.name reader.old.start reader.old.number commits → log_bytes commits < reader.old.size
+        → WalkEnds reader.old.start reader.old.number reader.new.position reader.new.number commits result }
+    ensures later { H.faults host.old ≤ H.faults host.new }
+    ensures cause { result ≡ Err PageFault.Failed → Rose (H.faults host.old) (H.faults host.new) }
+{
+    while reader.position < reader.start + reader.size {
+        match reader.next(host, into) {
+            Ok(true) => {}
+            Ok(false) => return Ok(()),
+            Err(fault) => return Err(fault),
+        }
+    }
+    Ok(())
+}
