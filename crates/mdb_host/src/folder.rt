@@ -84,12 +84,14 @@ fn make_file<R: Files>(rt: &R, paths: &Paths, place: usize, pages: u32) -> io::R
     sync_folder(rt, &paths.folder)
 }
 
+// Where a standard stream is closed, a file that is opened gets its descriptor, and what is said would
+// be written into the file. A clone gets none of those three.
 fn open_file<R: Files>(rt: &R, path: &str) -> io::Result<R::File> {
     let mut options = OpenOptions::new();
     options.read(true).write(true);
     let file = options.open(rt, path)?;
     if file.metadata()?.is_file() {
-        Ok(file)
+        file.try_clone()
     } else {
         Err(ErrorKind::InvalidInput.into())
     }
