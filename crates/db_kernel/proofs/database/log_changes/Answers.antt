@@ -18,13 +18,13 @@ pub append-requires-clause-low : goal.append-requires-clause-low
 append-requires-clause-low g c =
     let order = c.requires.log.order in
     let long : length c.encode_group.new.into ≡ group_bytes c.args.changes.now =
-        (group_long (record { name = c.args.ring.now.name; number = c.args.ring.now.last_commit + 1; changes = c.args.changes.now }) c.encode_group.new.into c.encode_group.ensures).0 in
+    (group_long (record { name = c.args.ring.now.name; number = c.args.ring.now.last_commit + 1; changes = c.args.changes.now }) c.encode_group.new.into c.encode_group.ensures).0 in
     omega (arith, long, c.requires.fit, c.requires.log.room, order.size.is, order.size.most)
 
 pub returns-clause-answer : goal.returns-clause-answer
 returns-clause-answer g c =
     let long : length c.encode_group.new.into ≡ group_bytes c.args.changes.now =
-        (group_long (record { name = c.args.ring.now.name; number = c.args.ring.now.last_commit + 1; changes = c.args.changes.now }) c.encode_group.new.into c.encode_group.ensures).0 in
+    (group_long (record { name = c.args.ring.now.name; number = c.args.ring.now.last_commit + 1; changes = c.args.changes.now }) c.encode_group.new.into c.encode_group.ensures).0 in
     let saved : c.args.ring.now.end_position - c.args.ring.now.saved_position ≡ c.args.ring.now.end_position = omega (arith, c.requires.log.saved) in
     let redo : c.args.ring.now.end_position - c.args.ring.now.redo_position ≡ c.args.ring.now.end_position = omega (arith, c.requires.log.redo) in
     subst (λ (p : ℕ × ℕ × ℕ). AppendAnswer c.args.ring.now.size p.0 p.1 p.2 c.append.result) (λ i. (saved i, redo i, long i)) c.append.ensures.answer
@@ -32,7 +32,7 @@ returns-clause-answer g c =
 pub returns-clause-ok : goal.returns-clause-ok
 returns-clause-ok g c =
     let long : length c.encode_group.new.into ≡ group_bytes c.args.changes.now =
-        (group_long (record { name = c.args.ring.now.name; number = c.args.ring.now.last_commit + 1; changes = c.args.changes.now }) c.encode_group.new.into c.encode_group.ensures).0 in
+    (group_long (record { name = c.args.ring.now.name; number = c.args.ring.now.last_commit + 1; changes = c.args.changes.now }) c.encode_group.new.into c.encode_group.ensures).0 in
     subst (λ (n : ℕ). OnOk c.append.result (c.append.new.self ≡ record { name = c.args.ring.now.name; size = c.args.ring.now.size; redo_position = c.args.ring.now.redo_position; saved_position = c.args.ring.now.saved_position; end_position = c.args.ring.now.end_position + n; last_commit = c.args.ring.now.last_commit + 1 })) long c.append.ensures.ok
 
 pub returns-clause-log : goal.returns-clause-log
