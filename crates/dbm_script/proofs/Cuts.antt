@@ -205,7 +205,7 @@ IsWhole-spelled (Bytes bytes) text p (inr s) = subst (λ (t : List ℕ). IsWhole
 -- The whole line
 
 -- the blanks in front
-pub blanks : List ℕ → List ℕ
+blanks : List ℕ → List ℕ
 blanks [] = []
 blanks (b ∷ bytes) = if is_blank_byte b then b ∷ blanks bytes else []
 
@@ -317,7 +317,7 @@ unfolding first_text
 text_some rest b = λ e. begun_some (token false (past_blanks rest)) b (ap (token false) e)
 
 -- a line is its blanks, its first part and what follows it
-pub cut_rest : (rest : List ℕ) → rest ≡ blanks rest ++ first_text rest ++ rest_after rest
+cut_rest : (rest : List ℕ) → rest ≡ blanks rest ++ first_text rest ++ rest_after rest
 unfolding first_text rest_after
 cut_rest rest =
     sym (append_assoc (blanks rest) (token false (past_blanks rest)) (after_token false (past_blanks rest))

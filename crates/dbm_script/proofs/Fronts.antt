@@ -1,8 +1,7 @@
 -- A line of which the first parts were read.
-use Rattle.std.proofs.Common.{◌≡◌, ℕ, List, [], ◌∷◌, ◌++◌, Bool, true, false, not, ◌&&◌, ◌==◌, IsTrue, Option, Some, None, Result, Ok, Err, length, map, codes, refl, sym, ap, ◌∙◌, subst, inl, inr, arith, append_assoc, get_or, Contains}
+use Rattle.std.proofs.Common.{◌≡◌, ℕ, List, [], ◌∷◌, ◌++◌, Bool, true, false, not, ◌&&◌, ◌==◌, IsTrue, Option, Some, None, Result, Ok, Err, map, codes, refl, sym, ap, ◌∙◌, subst, inl, inr, append_assoc}
 use Rattle.std.specs.List.{list_all}
 use Rattle.std.proofs.lemmas.Bool.{and_parts, and_from, not-true, eqb-true, eq-eqb, false≢true, both_ways}
-use Rattle.std.proofs.lemmas.List.Elements.{Contains-append_left, Contains-append_right}
 use Rattle.mdb_model.specs.declared.script.PageKind.TheVariants.{Complete, Incremental}
 use Rattle.mdb_model.specs.declared.script.PageKind.{PageKind}
 use Rattle.mdb_model.specs.declared.script.BackupKind.{BackupKind}
@@ -12,9 +11,9 @@ use Rattle.mdb_model.specs.declared.script.Command.TheVariants.{TaskBackup, Back
 use Rattle.mdb_model.specs.Script.{Part, Word, Number, Bytes, Spells, parts_of, page_kind_part, backup_kind_part, log_part, until_part, past_blanks, is_digit, number_of, same_word}
 use Rattle.dbm_script.specs.declared.fault.LineFault.{LineFault}
 use Rattle.dbm_script.specs.declared.fault.LineFault.TheVariants.{Syntax, Memory}
-use Rattle.dbm_script.specs.Cutting.{first_text, rest_after, Fits, IsSame, Follows}
+use Rattle.dbm_script.specs.Cutting.{first_text, rest_after, IsSame, Follows}
 use Rattle.dbm_script.specs.Reading.{IsRest}
-use Rattle.dbm_script.proofs.Cuts.{is_letter, is_word, is_proper, number-digits, letters-digits, IsWhole-spelled, text_some, cut_rest, blanks}
+use Rattle.dbm_script.proofs.Cuts.{is_letter, is_word, is_proper, number-digits, letters-digits, IsWhole-spelled, text_some}
 
 -- Parts of one form
 
@@ -174,26 +173,12 @@ before [] (other ∷ parts) part rest l s (e, f) = (spelled_same part other (fir
 before (first ∷ front) [] part rest l s f = absurd f
 before (first ∷ front) (other ∷ parts) part rest l s (e, f) = (e, before front parts part rest l s f)
 
--- what stands behind the first part stands in the line
-pub contains_after : (rest : List ℕ) (b : ℕ) → Contains (rest_after rest) b → Contains rest b
-contains_after rest b h =
-    subst (λ (t : List ℕ). Contains t b) (sym (cut_rest rest)) (Contains-append_right (blanks rest ++ first_text rest) (rest_after rest) b h)
-
 -- what is read past a part is read before it
 pub step : (front : List Part) (part : Part) (rest : List ℕ) (result : Result Command LineFault) → IsTrue (is_lettered part) → Spells part (first_text rest)
     → IsRest (front ++ part ∷ []) (rest_after rest) result → IsRest front rest result
 step front part rest (Ok command) l s r = (r.0, before front (parts_of command) part rest l s r.1)
 step front part rest (Err Syntax) l s r = λ command i f. r command i (further front (parts_of command) part rest (parts_proper command) l s f)
-step front part rest (Err Memory) l s r = contains_after rest 39 r
-
--- a byte string has a quote
-pub quote_in : (rest bytes : List ℕ) → Spells (Bytes bytes) (first_text rest) → Contains rest 39
-quote_in rest bytes s =
-    subst (λ (t : List ℕ). Contains t 39) (sym (cut_rest rest))
-    (Contains-append_left (blanks rest ++ first_text rest) (rest_after rest) 39 (Contains-append_right (blanks rest) (first_text rest) 39 (in_text bytes (first_text rest) s))) where
-      in_text : (bytes text : List ℕ) → Spells (Bytes bytes) text → Contains text 39
-      in_text bytes text (inl s) = (0, omega (arith, ap length s.1), subst (λ (t : List ℕ). get_or t 0 39 ≡ 39) (sym s.1) refl)
-      in_text bytes text (inr s) = (1, omega (arith, ap length s.2), subst (λ (t : List ℕ). get_or t 1 39 ≡ 39) (sym s.2) refl)
+step front part rest (Err Memory) l s r = (r.0, r.1, r.2, before front (parts_of r.0) part rest l s r.3)
 
 -- the same, where the text and the rest were cut off
 pub step_word : (front : List Part) (word text rest after : List ℕ) (result : Result Command LineFault) → IsTrue (is_word word)
@@ -218,9 +203,9 @@ pub follows_itself : (parts : List Part) (rest : List ℕ) → past_blanks rest 
 follows_itself [] rest e = e
 follows_itself (part ∷ parts) rest e = (same-itself part, follows_itself parts rest e)
 
--- so has a place with a key
-pub row_quote : (n : ℕ) (bytes : List ℕ) (parts : List Part) (rest : List ℕ) → Fits (Number n ∷ Bytes bytes ∷ parts) rest → Contains rest 39
-row_quote n bytes parts rest f = contains_after rest 39 (quote_in (rest_after rest) bytes f.1.0)
+-- a session, a table and a key that are in range
+pub in_place : (session table key : Bool) → IsTrue session → IsTrue table → IsTrue key → IsTrue (session && table && key)
+in_place session table key s t k = and_from (session && table) key (and_from session table s t) k
 
 -- the kind of a backup of pages is a word
 lettered_kind : (kind : PageKind) → IsTrue (is_lettered (page_kind_part kind))

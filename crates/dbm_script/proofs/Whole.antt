@@ -19,6 +19,6 @@ pub line_of_rest : (line : List ℕ) (command : Command) → length line ≤ 819
 line_of_rest line command l i f = (l, i, IsSpaced-line (parts_of command) line (parts_proper command) f)
 
 -- a fault past the blanks is a fault of the line
-pub fault_of_rest : (line : List ℕ) (fault : LineFault) → is_empty_or_comment (past_blanks line) ≡ false → IsRest [] line (Err fault) → IsParsed line (Err fault)
-fault_of_rest line Syntax e r = (not_skipped line e, λ command (l, i, s). r command i (Fits-line (parts_of command) line (parts_proper command) s))
-fault_of_rest line Memory e r = r
+pub fault_of_rest : (line : List ℕ) (fault : LineFault) → length line ≤ 8192 → is_empty_or_comment (past_blanks line) ≡ false → IsRest [] line (Err fault) → IsParsed line (Err fault)
+fault_of_rest line Syntax l e r = (not_skipped line e, λ command (few, i, s). r command i (Fits-line (parts_of command) line (parts_proper command) s))
+fault_of_rest line Memory l e r = (not_skipped line e, (r.0, r.2, line_of_rest line r.0 l r.1 r.3))

@@ -1,3 +1,8 @@
+pub mod Join
+pub mod Saying
+pub mod Turns
+pub mod Progressing
+pub mod Answering
 pub mod ReadingWindow
 pub mod ReadingLines
 pub mod ReadingSplits

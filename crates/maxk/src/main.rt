@@ -4,8 +4,10 @@
 mod lines;
 mod run;
 mod window;
+mod words;
 
 use crate::run::run;
+use crate::words::is_bad_word;
 use mdb_host::{FileHost, StdSource};
 use mdb_model::status::Status;
 use std::env;
@@ -22,7 +24,7 @@ fn main(rt: HostRuntime) -> ExitCode {
     let Some(folder) = words.next() else {
         return usage(&rt);
     };
-    if verb.as_str() != "run" || words.next().is_some() {
+    if verb.as_str() != "run" || is_bad_word(folder.as_str()) || words.next().is_some() {
         return usage(&rt);
     }
     let Ok(mut host) = FileHost::new(&rt, rt.alloc(), folder.as_str()) else {

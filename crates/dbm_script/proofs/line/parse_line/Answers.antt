@@ -9,4 +9,4 @@ returns-in-Ok c = (
 )
 
 pub returns-in-Err : goal.returns-in-Err
-returns-in-Err c = fault_of_rest c.args.line.now c.in-Err.fault (sym c.if-is_blank_or_comment.ensures) c.in-Err.ensures
+returns-in-Err c = fault_of_rest c.args.line.now c.in-Err.fault c.if-line-gt-LONGEST.false (sym c.if-is_blank_or_comment.ensures) c.in-Err.ensures

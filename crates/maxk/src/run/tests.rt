@@ -1,0 +1,170 @@
+// Scripts over a host in memory: the lines that are built, the limits of the log, faults of the
+// outside, and a stop at each moment.
+use super::*;
+use mdb_host::{Device, MemHost, MemSource};
+use std::test::Fail;
+
+// A new log volume of so many pages, all of them zero, which no crash takes away.
+fn make_log<H: Host>(host: &mut H, pages: u32) {
+    if host.size(Device::Log).is_none() {
+        let _ = host.make(Device::Log, pages);
+    }
+    if host.size(Device::Log).is_some() {
+        let _ = host.sync(Device::Log);
+    }
+}
+
+fn run_script(rt: &HostRuntime, host: &mut MemHost, script: &[u8]) -> Result<Status, Fail> {
+    let mut source = MemSource::new(rt.alloc(), script, 7, &[])?;
+    Ok(run(rt.alloc(), host, &mut source))
+}
+
+// A put of so many bytes under a key of one.
+fn push_put(script: &mut Vec<u8>, key: u8, count: usize) -> Result<(), Fail> {
+    script.extend_from_slice(b"s 1 put 1 '")?;
+    script.push(key)?;
+    script.extend_from_slice(b"' '")?;
+    for _ in 0..count {
+        script.push(b'x')?;
+    }
+    script.extend_from_slice(b"'\n")?;
+    Ok(())
+}
+
+// A script, and what it is answered on a log of four pages.
+const ROWS: [(&'static [u8], &'static [u8]); 9] = [
+    (
+        b"db_online\ns 1 put 1 'k' 'v'\ns 1 commit\nkill\ndb_online\ns 1 get 1 'k'\n",
+        b"OK ONLINE 0\nOK PUT\nCOMMIT 1\nOK OFFLINE\nOK ONLINE 1\nVALUE 'v'\n",
+    ),
+    (
+        b"db_online\ns 1 put 1 'k' 'v'\ns 1 get 1 'k'\nkill\ndb_online\ns 1 get 1 'k'\n",
+        b"OK ONLINE 0\nOK PUT\nVALUE 'v'\nOK OFFLINE\nOK ONLINE 0\nNONE\n",
+    ),
+    (
+        b"s 1 get 1 'k'\ns 1 commit\nkill\ndb_online\ndb_online\ns 1 commit\n",
+        b"ERR 2 STATE OFFLINE\nERR 2 STATE OFFLINE\nOK OFFLINE\nOK ONLINE 0\nERR 2 STATE ONLINE\nOK EMPTY\n",
+    ),
+    (b"", b""),
+    (b"# a comment\n\n   \nkill", b"OK OFFLINE\n"),
+    (b"kill\r\n  kill  \r\n", b"OK OFFLINE\nOK OFFLINE\n"),
+    (
+        b"KILL\nkill kill\n\0\n\xFF\xFE\n",
+        b"ERR 1 SYNTAX\nERR 1 SYNTAX\nERR 1 SYNTAX\nERR 1 SYNTAX\n",
+    ),
+    (
+        b"db_online\ns 1 put 1 '' 'v'\ns 1 put 501 'k' 'v'\ns 2 put 1 'k' 'v'\ninfo\n",
+        b"OK ONLINE 0\nERR 1 SYNTAX\nERR 1 SYNTAX\nERR 1 SYNTAX\nERR 1 SYNTAX\n",
+    ),
+    (
+        b"db_online\ns 1 put 1 'b' ''\ns 1 put 1 'a' '1'\ns 1 put 1 'b' '2'\ns 1 commit\ns 1 get 1 'b'\ns 1 get 2 'b'\n",
+        b"OK ONLINE 0\nOK PUT\nOK PUT\nOK PUT\nCOMMIT 1\nVALUE '2'\nNONE\n",
+    ),
+];
+
+#[test]
+fn answers_each_line(rt: HostRuntime) -> Result<(), Fail> {
+    for (script, want) in ROWS {
+        let mut host = MemHost::new(rt.alloc(), &[])?;
+        make_log(&mut host, 4);
+        assert_eq!(rt; run_script(&rt, &mut host, script)?, Status::Done);
+        assert_eq!(rt; host.output(), want);
+    }
+    Ok(())
+}
+
+#[test]
+fn the_log_is_full_at_its_last_byte(rt: HostRuntime) -> Result<(), Fail> {
+    let mut script = b"db_online\n".to_vec(rt.alloc())?;
+    let mut want = b"OK ONLINE 0\n".to_vec(rt.alloc())?;
+    for _ in 0..16 {
+        push_put(&mut script, b'a', 959)?;
+        script.extend_from_slice(b"s 1 commit\n")?;
+    }
+    push_put(&mut script, b'a', 342)?;
+    script.extend_from_slice(b"s 1 commit\n")?;
+    push_put(&mut script, b'a', 0)?;
+    script.extend_from_slice(b"s 1 commit\n")?;
+    for text in [
+        b"OK PUT\nCOMMIT 1\nOK PUT\nCOMMIT 2\nOK PUT\nCOMMIT 3\nOK PUT\nCOMMIT 4\nOK PUT\nCOMMIT 5\n".as_slice(),
+        b"OK PUT\nCOMMIT 6\nOK PUT\nCOMMIT 7\nOK PUT\nCOMMIT 8\nOK PUT\nCOMMIT 9\nOK PUT\nCOMMIT 10\n",
+        b"OK PUT\nCOMMIT 11\nOK PUT\nCOMMIT 12\nOK PUT\nCOMMIT 13\nOK PUT\nCOMMIT 14\nOK PUT\nCOMMIT 15\n",
+        b"OK PUT\nCOMMIT 16\nOK PUT\nCOMMIT 17\nOK PUT\nERR 5 LOGFULL 16383 16384\n",
+    ] {
+        want.extend_from_slice(text)?;
+    }
+    let mut host = MemHost::new(rt.alloc(), &[])?;
+    make_log(&mut host, 4);
+    assert_eq!(rt; run_script(&rt, &mut host, &script)?, Status::Done);
+    assert_eq!(rt; host.output(), want.as_slice());
+    Ok(())
+}
+
+#[test]
+fn a_large_transaction_is_refused(rt: HostRuntime) -> Result<(), Fail> {
+    let mut script = b"db_online\n".to_vec(rt.alloc())?;
+    for key in b'a'..=b'k' {
+        push_put(&mut script, key, 1500)?;
+    }
+    let mut host = MemHost::new(rt.alloc(), &[])?;
+    make_log(&mut host, 4);
+    assert_eq!(rt; run_script(&rt, &mut host, &script)?, Status::Done);
+    assert!(rt; host.output().ends_with(b"OK PUT\nERR 6 TRANSLARGE 16621\n"));
+    Ok(())
+}
+
+#[test]
+fn names_a_volume_that_is_none(rt: HostRuntime) -> Result<(), Fail> {
+    let mut absent = MemHost::new(rt.alloc(), &[])?;
+    assert_eq!(rt; run_script(&rt, &mut absent, b"db_online\n")?, Status::Done);
+    assert_eq!(rt;
+        absent.output(),
+        b"ERR 20 DAMAGED LOG 0 MISSING\n".as_slice()
+    );
+    let mut small = MemHost::new(rt.alloc(), &[])?;
+    make_log(&mut small, 3);
+    assert_eq!(rt; run_script(&rt, &mut small, b"db_online\n")?, Status::Done);
+    assert_eq!(rt; small.output(), b"ERR 20 DAMAGED LOG 0 SIZE\n".as_slice());
+    Ok(())
+}
+
+#[test]
+fn faults_of_the_outside_end_the_call(rt: HostRuntime) -> Result<(), Fail> {
+    let mut host = MemHost::new(rt.alloc(), &[])?;
+    let mut source = MemSource::new(rt.alloc(), b"kill\nkill\n", 5, &[2])?;
+    assert_eq!(rt;
+        run(rt.alloc(), &mut host, &mut source),
+        Status::ScriptFault
+    );
+    assert_eq!(rt; host.output(), b"OK OFFLINE\n".as_slice());
+    let mut mute = MemHost::new(rt.alloc(), &[1])?;
+    assert_eq!(rt; run_script(&rt, &mut mute, b"kill\n")?, Status::SayFault);
+    Ok(())
+}
+
+// The stored run, and what a restart finds of it.
+const STORED: &[u8] = b"db_online\ns 1 put 1 'k' 'v'\ns 1 commit\nkill\ndb_online\ns 1 get 1 'k'\n";
+
+const AGAIN: &[u8] = b"db_online\ns 1 get 1 'k'\n";
+
+const BEFORE: &[u8] = b"OK ONLINE 0\nNONE\n";
+
+const AFTER: &[u8] = b"OK ONLINE 1\nVALUE 'v'\n";
+
+#[test]
+fn each_stop_leaves_the_commit_whole_or_not_at_all(rt: HostRuntime) -> Result<(), Fail> {
+    let mut host = MemHost::new(rt.alloc(), &[])?;
+    make_log(&mut host, 4);
+    let made = host.now();
+    assert_eq!(rt; run_script(&rt, &mut host, STORED)?, Status::Done);
+    let end = host.now();
+    for at in made..=end {
+        for pick in [0, 1, 2, u64::MAX] {
+            let mut left = host.image(rt.alloc(), at, pick)?;
+            assert_eq!(rt; run_script(&rt, &mut left, AGAIN)?, Status::Done);
+            let found = left.output();
+            assert!(rt; found == AFTER || (at < end && found == BEFORE));
+        }
+    }
+    Ok(())
+}
