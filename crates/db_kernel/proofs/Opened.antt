@@ -1,5 +1,5 @@
 -- The log and the database of it, once they are opened.
-use Rattle.std.proofs.Common.{◌≡◌, ◌∙◌, sym, subst, ℕ, ◌<◌, List, Ok, Err, arith}
+use Rattle.std.proofs.Common.{◌≡◌, ◌∙◌, sym, subst, ℕ, ◌<◌, List, Ok, Err, inl, inr, arith}
 use Rattle.mdb_model.specs.declared.change.Commit.{Commit}
 use Rattle.mdb_model.specs.declared.fault.Device.{Device}
 use Rattle.mdb_model.specs.declared.fault.OpenFault.{OpenFault}
@@ -12,10 +12,11 @@ use Rattle.mdb_host.specs.Disk.{Disk, Goes, Agree, Synced}
 use Rattle.mdb_host.proofs.Moments.{same_image}
 use Rattle.mdb_bytes.specs.LogAlone.{first_name}
 use Rattle.mdb_bytes.specs.LogReading.{IsLog, log_bytes}
-use Rattle.mdb_bytes.specs.Rings.{ring_byte}
+use Rattle.mdb_bytes.specs.Rings.{ring_byte, HasRing}
 use Rattle.redo_ring.specs.declared.open.LogStart.{LogStart}
 use Rattle.redo_ring.specs.declared.ring.Ring.{Ring}
-use Rattle.redo_ring.specs.Opening.{ring_size, IsOpened, IsWhole, OpenEnds}
+use Rattle.redo_ring.specs.Opening.{ring_size, IsOpened, IsWhole, OpenEnds, OpenFinds}
+use Rattle.db_kernel.specs.Damages.{first_start, TellsDamage}
 use Rattle.db_kernel.specs.Kept.{IsWholeLog, IsFirstStart, StartIs, RingIs, OpenedIs, as_refusal}
 use Rattle.db_kernel.specs.Redo.{Redone}
 
@@ -81,3 +82,39 @@ redo_refused size commits fault refusal is redone = subst (λ (r : Refusal). Ope
     by_fault Memory so = tt
     by_fault Failed so = tt
     by_fault (OpenDamaged damage) so = so
+
+-- a start from the first position on is that of its pages
+is_first_start : (start : LogStart) → IsFirstStart start → start ≡ first_start start.pages
+is_first_start start first = λ i. record {
+  name = first.name i;
+  pages = start.pages;
+  position = first.position i;
+  commit = first.commit i;
+  saved_position = first.saved_position i;
+  saved_commit = first.saved_commit i;
+}
+
+-- where the ring that is opened is called damaged, it is
+pub ring_damaged : (start : LogStart) (fault : OpenFault) (refusal : Refusal) (old mid : Image) → IsFirstStart start → Agree old mid → HasRing (ring_size start.pages) mid
+    → OpenFinds start (ring_byte (ring_size start.pages) mid) (Err fault) → refusal ≡ as_refusal fault → TellsDamage old refusal
+ring_damaged start fault refusal old mid first agree there finds is = subst (λ (r : Refusal). TellsDamage old r) (sym is) (by_fault fault finds)
+  where
+    by_fault : (f : OpenFault) → OpenFinds start (ring_byte (ring_size start.pages) mid) (Err f) → TellsDamage old (as_refusal f)
+    by_fault Memory so = tt
+    by_fault Failed so = tt
+    by_fault (OpenDamaged damage) so = inr (inr (
+      start.pages,
+      first.least,
+      first.most,
+      subst (λ (image : Image). HasRing (ring_size start.pages) image) (sym (same_image old mid agree)) there,
+      subst (λ (x : LogStart × Image). OpenFinds x.0 (ring_byte (ring_size start.pages) x.1) (Err (OpenDamaged damage))) (λ i. (is_first_start start first i, sym (same_image old mid agree) i)) so,
+    ))
+
+-- the rows of a log that was opened are made, so nothing is called damaged as they are
+pub redo_tells : (image : Image) (commits : List Commit) (fault : OpenFault) (refusal : Refusal) → refusal ≡ as_refusal fault → Redone commits (Err fault) → TellsDamage image refusal
+redo_tells image commits fault refusal is redone = subst (λ (r : Refusal). TellsDamage image r) (sym is) (by_fault fault redone)
+  where
+    by_fault : (f : OpenFault) → Redone commits (Err f) → TellsDamage image (as_refusal f)
+    by_fault Memory so = tt
+    by_fault Failed so = tt
+    by_fault (OpenDamaged damage) so = absurd so

@@ -4,3 +4,4 @@ pub mod Stretch
 pub mod Working
 pub mod Kept
 pub mod Committing
+pub mod Damages

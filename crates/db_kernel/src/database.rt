@@ -1,5 +1,5 @@
 //! An open database: its rows in memory, the changes of session 1, and its log.
-ghost use Rattle.std.specs.Prelude.{◌≡◌, ℕ, ◌+◌, ◌-◌, ◌<◌, ◌≤◌, ◌^◌, List, map, min, OnOk, OnErr, IsTrue, Some, Err, Ok};
+ghost use Rattle.std.specs.Prelude.{◌≡◌, ℕ, ◌+◌, ◌-◌, ◌<◌, ◌≤◌, ◌^◌, List, map, min, IfOk, OnOk, OnErr, IsTrue, Some, Err, Ok};
 ghost use Rattle.std.specs.List.{list_all};
 ghost use Rattle.std.specs.FinMap.{get, values};
 ghost use Rattle.mdb_model.specs.Answers.{plain, row_reply};
@@ -17,6 +17,7 @@ ghost use Rattle.mdb_bytes.specs.Rings.{HasRing};
 ghost use Rattle.redo_ring.specs.Calls.{AppendAnswer, Untouched};
 ghost use Rattle.redo_ring.specs.Ring.{Appends, Appended};
 ghost use Rattle.db_kernel.specs.Committing.{CommitDoes};
+ghost use Rattle.db_kernel.specs.Damages.{IsInside};
 ghost use Rattle.db_kernel.specs.Kept.{IsWholeLog, IsAt};
 ghost use Rattle.db_kernel.specs.Rows.{seen_row};
 ghost use Rattle.db_kernel.specs.Stretch.{Stand};
@@ -71,7 +72,7 @@ impl Database {
         ensures ring { self.new.ring ≡ self.old.ring }
         ensures moves { (ws : List World) → IsAt self.old ws
             → Moves ws (Some (PutRow (record { 0 = 1 }) table key.now value.now)) (plain result) (IsAt self.new) }
-        ensures no_device { result ≡ Reply.Refused Refusal.DeviceFailed → ⊥ }
+        ensures inside { IsInside result }
     {
         let bytes = self.transaction.bytes_with(table, key, value);
         if most_bytes(self.ring.size) < bytes {
@@ -95,7 +96,8 @@ impl Database {
         ensures does { H.tells → (ws : List World) → IsAt self.old ws → Stand no_pages Stands (H.disk host.old) ws
             → CommitDoes (H.disk host.old) (H.disk host.new) ws self.new result }
         ensures cause { HasCause (H.faults host.old) (H.faults host.new) result }
-        ensures no_device { result ≡ Ok (Reply.Refused Refusal.DeviceFailed) → ⊥ }
+        ensures inside { IfOk result IsInside }
+        ensures say_faults { H.say_faults host.new ≡ H.say_faults host.old }
     {
         if self.transaction.is_empty() {
             return Ok(Reply::NothingToCommit);
@@ -142,6 +144,7 @@ fn log_changes<H: Host>(
     ensures still { H.tells → HasRing ring.old.size (H.disk host.new).seen }
     ensures later { H.faults host.old ≤ H.faults host.new }
     ensures cause { result ≡ Err RingFault.Failed → Rose (H.faults host.old) (H.faults host.new) }
+    ensures say_faults { H.say_faults host.new ≡ H.say_faults host.old }
 {
     encode_group(group, ring.name, ring.last_commit + 1, changes);
     ring.append(host, group)

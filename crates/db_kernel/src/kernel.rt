@@ -10,6 +10,7 @@ ghost use Rattle.mdb_host.specs.Disk.{Disk, Keeps};
 ghost use Rattle.mdb_bytes.specs.Groups.{change_fits};
 ghost use Rattle.mdb_bytes.specs.LogAlone.{Stands};
 ghost use Rattle.mdb_model.specs.declared.change.Change.TheVariants.{Put};
+ghost use Rattle.db_kernel.specs.Damages.{IsInside, RepliesDamage};
 ghost use Rattle.db_kernel.specs.Kept.{Ready, Meets, Fits};
 ghost use Rattle.db_kernel.specs.Stretch.{Stand, Completes};
 ghost use Rattle.db_kernel.specs.Working.{Moves, no_pages};
@@ -52,6 +53,8 @@ impl Kernel {
             → Completes no_pages Stands (H.disk host.old) (H.disk host.new) ws (Some line.now) (plain result) (Fits self.new.database) }
         ensures later { H.faults host.old ≤ H.faults host.new }
         ensures cause { result ≡ Reply.Refused Refusal.DeviceFailed → Rose (H.faults host.old) (H.faults host.new) }
+        ensures damage { H.tells → RepliesDamage (H.disk host.old).seen result }
+        ensures say_faults { H.say_faults host.new ≡ H.say_faults host.old }
     {
         match line {
             Command::GetRow(session, table, key) => self.get(*session, *table, key),
@@ -86,7 +89,7 @@ impl Kernel {
     fn get(&mut self, session: Session, table: Table, key: &Key) -> Reply
         ensures same { self.new.database ≡ self.old.database }
         ensures moves { (ws : List World) → Fits self.old.database ws → Moves ws (Some (GetRow session table key.now)) (plain result) (Fits self.old.database) }
-        ensures no_device { result ≡ Reply.Refused Refusal.DeviceFailed → ⊥ }
+        ensures inside { IsInside result }
     {
         if session.0 != 1 {
             return Reply::Refused(Refusal::Syntax);
@@ -103,7 +106,7 @@ impl Kernel {
         ensures ready { Ready self.new.database }
         ensures meets { (image : Image) → Meets self.old.database image → Meets self.new.database image }
         ensures moves { (ws : List World) → Fits self.old.database ws → Moves ws (Some (PutRow session table key.now value.now)) (plain result) (Fits self.new.database) }
-        ensures no_device { result ≡ Reply.Refused Refusal.DeviceFailed → ⊥ }
+        ensures inside { IsInside result }
     {
         if session.0 != 1 {
             return Reply::Refused(Refusal::Syntax);
@@ -117,7 +120,7 @@ impl Kernel {
     fn kill(&mut self) -> Reply
         ensures off { self.new.database ≡ None }
         ensures moves { (ws : List World) → Fits self.old.database ws → Moves ws (Some Kill) (plain result) (Fits self.new.database) }
-        ensures no_device { result ≡ Reply.Refused Refusal.DeviceFailed → ⊥ }
+        ensures inside { IsInside result }
     {
         self.database = None;
         Reply::OfflineNow
@@ -133,6 +136,8 @@ impl Kernel {
             → Completes no_pages Stands (H.disk host.old) (H.disk host.new) ws (Some (CommitWork session)) (plain result) (Fits self.new.database) }
         ensures later { H.faults host.old ≤ H.faults host.new }
         ensures cause { result ≡ Reply.Refused Refusal.DeviceFailed → Rose (H.faults host.old) (H.faults host.new) }
+        ensures damage { H.tells → RepliesDamage (H.disk host.old).seen result }
+        ensures say_faults { H.say_faults host.new ≡ H.say_faults host.old }
     {
         if session.0 != 1 {
             return Reply::Refused(Refusal::Syntax);
@@ -159,6 +164,8 @@ impl Kernel {
             → Completes no_pages Stands (H.disk host.old) (H.disk host.new) ws (Some DbOnline) (plain result) (Fits self.new.database) }
         ensures later { H.faults host.old ≤ H.faults host.new }
         ensures cause { result ≡ Reply.Refused Refusal.DeviceFailed → Rose (H.faults host.old) (H.faults host.new) }
+        ensures damage { H.tells → RepliesDamage (H.disk host.old).seen result }
+        ensures say_faults { H.say_faults host.new ≡ H.say_faults host.old }
     {
         if self.database.is_some() {
             return Reply::Refused(Refusal::WrongState(State::Online));

@@ -1,5 +1,5 @@
 //! Opening the database of a log.
-ghost use Rattle.std.specs.Prelude.{◌≡◌, ℕ, ◌+◌, ◌*◌, ◌≤◌, ◌<◌, List, Err, IfOk};
+ghost use Rattle.std.specs.Prelude.{◌≡◌, ℕ, ◌+◌, ◌*◌, ◌≤◌, ◌<◌, List, Err, IfOk, IfErr};
 ghost use Rattle.mdb_model.specs.Causes.{Rose};
 ghost use Rattle.mdb_model.specs.declared.change.Commit.{Commit};
 ghost use Rattle.mdb_model.specs.declared.fault.Device.TheVariants.{Log};
@@ -8,6 +8,8 @@ ghost use Rattle.mdb_bytes.specs.LogAlone.{first_name};
 ghost use Rattle.mdb_bytes.specs.LogReading.{IsLog, log_bytes};
 ghost use Rattle.mdb_bytes.specs.Rings.{HasRing, IsRingSize, ring_byte};
 ghost use Rattle.redo_ring.specs.Opening.{ring_size};
+ghost use Rattle.redo_ring.specs.Ring.{HasLog};
+ghost use Rattle.db_kernel.specs.Damages.{TellsDamage};
 ghost use Rattle.db_kernel.specs.Kept.{IsWholeLog, IsFirstStart, StartIs, RingIs, OpenedIs, as_refusal};
 
 use crate::database::Database;
@@ -51,8 +53,10 @@ fn log_start<H: Host>(host: &mut H) -> Result<LogStart, Refusal>
     ensures there { H.tells → IfOk result (λ start. HasRing (ring_size start.pages) (H.disk host.new).seen) }
     ensures synced { H.tells → IfOk result (λ start. Synced (H.disk host.new) Log) }
     ensures finds { H.tells → (size : ℕ) → IsRingSize size → HasRing size (H.disk host.old).seen → StartIs size result }
+    ensures damage { H.tells → IfErr result (TellsDamage (H.disk host.old).seen) }
     ensures later { H.faults host.old ≤ H.faults host.new }
     ensures cause { result ≡ Err Refusal.DeviceFailed → Rose (H.faults host.old) (H.faults host.new) }
+    ensures say_faults { H.say_faults host.new ≡ H.say_faults host.old }
 {
     let Some(pages) = host.size(Device::Log) else {
         return Err(damaged(Rule::Missing));
@@ -85,8 +89,11 @@ fn open_ring<H: Host>(alloc: Global, host: &mut H) -> Result<Ring, Refusal>
     ensures synced { H.tells → IfOk result (λ ring. Synced (H.disk host.new) Log) }
     ensures finds { H.tells → (size : ℕ) (commits : List Commit) → IsRingSize size → HasRing size (H.disk host.old).seen
         → IsLog (ring_byte size (H.disk host.old).seen) first_name 0 0 commits → log_bytes commits < size → RingIs size commits result }
+    ensures log { H.tells → IfOk result (λ ring. (commits : List Commit) × HasLog ring.size ring.name (ring_byte ring.size (H.disk host.new).seen) 0 0 ring.end_position ring.last_commit commits) }
+    ensures damage { H.tells → IfErr result (TellsDamage (H.disk host.old).seen) }
     ensures later { H.faults host.old ≤ H.faults host.new }
     ensures cause { result ≡ Err Refusal.DeviceFailed → Rose (H.faults host.old) (H.faults host.new) }
+    ensures say_faults { H.say_faults host.new ≡ H.say_faults host.old }
 {
     let start = match log_start(host) {
         Ok(start) => start,
@@ -107,8 +114,10 @@ pub fn open_database<H: Host>(alloc: Global, host: &mut H) -> Result<Database, R
     ensures synced { H.tells → IfOk result (λ database. Synced (H.disk host.new) Log) }
     ensures finds { H.tells → (size : ℕ) (commits : List Commit) → IsRingSize size → HasRing size (H.disk host.old).seen
         → IsLog (ring_byte size (H.disk host.old).seen) first_name 0 0 commits → log_bytes commits < size → OpenedIs size commits result }
+    ensures damage { H.tells → IfErr result (TellsDamage (H.disk host.old).seen) }
     ensures later { H.faults host.old ≤ H.faults host.new }
     ensures cause { result ≡ Err Refusal.DeviceFailed → Rose (H.faults host.old) (H.faults host.new) }
+    ensures say_faults { H.say_faults host.new ≡ H.say_faults host.old }
 {
     let ring = match open_ring(alloc, host) {
         Ok(ring) => ring,

@@ -66,6 +66,7 @@ pub fn redo<H: Host>(
         → log_bytes commits < ring.now.size → ring.now.end_position ≡ log_bytes commits → Redone commits result }
     ensures later { H.faults host.old ≤ H.faults host.new }
     ensures cause { result ≡ Err OpenFault.Failed → Rose (H.faults host.old) (H.faults host.new) }
+    ensures say_faults { H.say_faults host.new ≡ H.say_faults host.old }
 {
     let mut rows = MemRows::new(alloc);
     let mut reader = ring.reader(0, 0);

@@ -2,7 +2,7 @@
 ghost use Rattle.std.specs.Prelude.{◌≡◌, ℕ, ◌≤◌, ◌<◌, ◌++◌, List, Bool, length, OnOk, IfOk, Some, MatchOption, false};
 ghost use Rattle.mdb_model.specs.Agreement.{Ages};
 ghost use Rattle.mdb_model.specs.Answers.{plain};
-ghost use Rattle.mdb_model.specs.Causes.{Rose};
+ghost use Rattle.mdb_model.specs.Causes.{Rose, HasCause};
 ghost use Rattle.mdb_model.specs.declared.script.Command.{Command};
 ghost use Rattle.mdb_model.specs.Headline.{CanStart};
 ghost use Rattle.mdb_model.specs.Images.{Image};
@@ -39,6 +39,7 @@ fn reply_to<H: Host>(alloc: Global, kernel: &mut Kernel, host: &mut H, line: &[u
         → Answers (H.disk host.old) (H.disk host.new) ws line.now kernel.new.database result }
     ensures later { H.faults host.old ≤ H.faults host.new }
     ensures cause { MatchOption result (Unit {0}) (λ reply. reply ≡ Reply.Refused Refusal.DeviceFailed → Rose (H.faults host.old) (H.faults host.new)) }
+    ensures say_faults { H.say_faults host.new ≡ H.say_faults host.old }
 {
     match parse_line(alloc, line) {
         Ok(None) => None,
@@ -53,6 +54,7 @@ fn say_reply<H: Host>(host: &mut H, reply: &Reply) -> Result<(), Failed>
     ensures says { H.tells → Says (H.disk host.old) (H.disk host.new) (text_of (plain reply.now)) }
     ensures said { OnOk result (H.tells → (H.disk host.new).said (H.disk host.new).now ≡ (H.disk host.old).said (H.disk host.old).now ++ text_of (plain reply.now)) }
     ensures faults { H.faults host.new ≡ H.faults host.old }
+    ensures say_cause { HasCause (H.say_faults host.old) (H.say_faults host.new) result }
 {
     let mut text = LineBuf::new();
     reply_text(0, reply, &mut text);
@@ -75,6 +77,7 @@ fn take_line<H: Host>(
     ensures turned { H.tells → (ws : List World) → Fits kernel.old.database ws → Stand no_pages Stands (H.disk host.old) ws
         → Turned (H.disk host.old) (H.disk host.new) (H.faults host.old) (H.faults host.new) ws line.now kernel.new.database result }
     ensures later { H.faults host.old ≤ H.faults host.new }
+    ensures say_cause { HasCause (H.say_faults host.old) (H.say_faults host.new) result }
 {
     let Some(reply) = reply_to(alloc, kernel, host, line) else {
         return Ok(false);
@@ -94,6 +97,7 @@ fn refuse_line<H: Host>(kernel: &Kernel, host: &mut H) -> Result<bool, Failed>
     ensures turned { H.tells → (text : List ℕ) → 8192 < length text → (ws : List World) → Fits kernel.now.database ws → Stand no_pages Stands (H.disk host.old) ws
         → Turned (H.disk host.old) (H.disk host.new) (H.faults host.old) (H.faults host.new) ws text kernel.now.database result }
     ensures faults { H.faults host.new ≡ H.faults host.old }
+    ensures say_cause { HasCause (H.say_faults host.old) (H.say_faults host.new) result }
 {
     match say_reply(host, &Reply::Refused(Refusal::Syntax)) {
         Ok(()) => Ok(true),
@@ -118,6 +122,7 @@ fn answer<H: Host>(
     ensures turned { H.tells → (text : List ℕ) → IsLineText kind found.now text → (ws : List World) → Fits kernel.old.database ws → Stand no_pages Stands (H.disk host.old) ws
         → Turned (H.disk host.old) (H.disk host.new) (H.faults host.old) (H.faults host.new) ws text kernel.new.database result }
     ensures later { H.faults host.old ≤ H.faults host.new }
+    ensures say_cause { HasCause (H.say_faults host.old) (H.say_faults host.new) result }
 {
     match kind {
         LineKind::Text => take_line(alloc, kernel, host, found),
@@ -155,6 +160,7 @@ pub fn run<H: Host, S: Source>(alloc: Global, host: &mut H, source: &mut S) -> S
         → CanStart no_pages (H.disk host.new).said (H.disk host.new).may_leave Stands pages_in savepoint_in commit_in past_end (H.disk host.old).now from
         → Promised pages_in savepoint_in commit_in past_end (H.disk host.old) (H.disk host.new) (H.faults host.old) (H.faults host.new) from result bytes (S.left source.new) }
     ensures script_cause { result ≡ Status.ScriptFault → Rose (S.faults source.old) (S.faults source.new) }
+    ensures say_cause { result ≡ Status.SayFault → Rose (H.say_faults host.old) (H.say_faults host.new) }
 {
     let Ok(mut reader) = LineReader::new(alloc) else {
         return Status::Memory;

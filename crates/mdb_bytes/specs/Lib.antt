@@ -8,3 +8,4 @@ pub mod ChangeHeads
 pub mod GroupHeads
 pub mod ChangeOrder
 pub mod ChangeEntries
+pub mod Held

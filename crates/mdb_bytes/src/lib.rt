@@ -6,6 +6,7 @@ mod encode;
 mod entry;
 mod group;
 mod group_buf;
+mod held;
 mod numbers;
 mod order;
 
@@ -14,3 +15,4 @@ pub use encode::{begin_group, encode_group, put_change};
 pub use entry::{ChangeEntry, group_entry};
 pub use group::{GroupHead, OPEN_GATE, check_group, group_head, group_len, is_due};
 pub use group_buf::{GroupBuf, LONGEST_GROUP};
+pub use held::{Held, LogRead, Rows, UndoEntry};

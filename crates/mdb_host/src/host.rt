@@ -115,6 +115,7 @@ pub fn write_kept<H: Host>(host: &mut H, device: Device, at: u64, from: &[u8]) -
     ensures seen { H.tells → Torn device at (length from.now) (H.disk host.old).seen (H.disk host.new).seen }
     ensures kept { OnOk result (H.tells → (image : Image) → (H.disk host.new).may_leave (H.disk host.new).now image → Has image device at from.now) }
     ensures cause { HasCause (H.faults host.old) (H.faults host.new) result }
+    ensures say_faults { H.say_faults host.new ≡ H.say_faults host.old }
 {
     host.write(device, at, from)?;
     host.sync(device)

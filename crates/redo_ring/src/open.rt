@@ -55,6 +55,7 @@ impl Ring {
         ensures ends { H.tells → (commits unsaved : List Commit) → IsWhole start.now (ring_byte (ring_size start.now.pages) (H.disk host.old).seen) commits unsaved → OpenEnds start.now commits result }
         ensures later { H.faults host.old ≤ H.faults host.new }
         ensures cause { result ≡ Err OpenFault.Failed → Rose (H.faults host.old) (H.faults host.new) }
+        ensures say_faults { H.say_faults host.new ≡ H.say_faults host.old }
     {
         let Ok(mut group) = GroupBuf::new(alloc) else {
             return Err(OpenFault::Memory);
@@ -129,6 +130,7 @@ fn log_end<H: Host>(
     ensures ends { H.tells → (commits : List Commit) → IsLog (ring_byte size (H.disk host.old).seen) name position commit commits → log_bytes commits < size → EndEnds position commit commits result }
     ensures later { H.faults host.old ≤ H.faults host.new }
     ensures cause { result ≡ Err PageFault.Failed → Rose (H.faults host.old) (H.faults host.new) }
+    ensures say_faults { H.say_faults host.new ≡ H.say_faults host.old }
 {
     let mut reader = RingReader {
         name,
@@ -161,6 +163,7 @@ fn both_ends<H: Host>(
     ensures ends { H.tells → (commits unsaved : List Commit) → IsWhole start.now (ring_byte (ring_size start.now.pages) (H.disk host.old).seen) commits unsaved → BothEnds start.now commits result }
     ensures later { H.faults host.old ≤ H.faults host.new }
     ensures cause { result ≡ Err PageFault.Failed → Rose (H.faults host.old) (H.faults host.new) }
+    ensures say_faults { H.say_faults host.new ≡ H.say_faults host.old }
 {
     let size = ring_len(start.pages);
     let end = match log_end(host, start.name, size, start.position, start.commit, into) {

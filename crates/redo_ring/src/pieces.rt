@@ -25,6 +25,7 @@ fn write_piece<H: Host>(
     ensures seen { H.tells → RingTorn size position (length bytes.now) (H.disk host.old).seen (H.disk host.new).seen }
     ensures written { IfOk result (λ n. H.tells → (i : ℕ) → i < n → ring_byte size (H.disk host.new).seen (position + i) ≡ get_or bytes.now i 0) }
     ensures cause { HasCause (H.faults host.old) (H.faults host.new) result }
+    ensures say_faults { H.say_faults host.new ≡ H.say_faults host.old }
 {
     let at = position % size;
     let n = piece_len(size, at, bytes.len());
@@ -65,6 +66,7 @@ pub(crate) fn write_ring<H: Host>(
     ensures seen { H.tells → RingTorn size position (length bytes.now) (H.disk host.old).seen (H.disk host.new).seen }
     ensures written { OnOk result (H.tells → StandsAt (ring_byte size (H.disk host.new).seen) position bytes.now) }
     ensures cause { HasCause (H.faults host.old) (H.faults host.new) result }
+    ensures say_faults { H.say_faults host.new ≡ H.say_faults host.old }
 {
     let mut done = 0;
     while done < bytes.len() {
@@ -89,6 +91,7 @@ pub(crate) fn write_ring_kept<H: Host>(
     ensures seen { H.tells → RingTorn size position (length bytes.now) (H.disk host.old).seen (H.disk host.new).seen }
     ensures kept { OnOk result (H.tells → (image : Image) → (H.disk host.new).may_leave (H.disk host.new).now image → StandsAt (ring_byte size image) position bytes.now) }
     ensures cause { HasCause (H.faults host.old) (H.faults host.new) result }
+    ensures say_faults { H.say_faults host.new ≡ H.say_faults host.old }
 {
     write_ring(host, size, position, bytes)?;
     host.sync(Device::Log)
@@ -109,6 +112,7 @@ pub(crate) fn read_ring<H: Host>(
     ensures seen { H.tells → Agree (H.disk host.old).seen (H.disk host.new).seen }
     ensures bytes { OnOk result (H.tells → StandsAt (ring_byte size (H.disk host.old).seen) position into.new) }
     ensures cause { HasCause (H.faults host.old) (H.faults host.new) result }
+    ensures say_faults { H.say_faults host.new ≡ H.say_faults host.old }
 {
     let at = position % size;
     let (front, rest) = into.split_at_mut(piece_len(size, at, into.len()));

@@ -56,6 +56,7 @@ impl RingReader {
             → IsNextOf self.old.size self.old.name (ring_byte self.old.size (H.disk host.old).seen) self.old.position self.old.number into.new commits result }
         ensures later { H.faults host.old ≤ H.faults host.new }
         ensures cause { result ≡ Err PageFault.Failed → Rose (H.faults host.old) (H.faults host.new) }
+        ensures say_faults { H.say_faults host.new ≡ H.say_faults host.old }
     {
         let mut head = [0u8; HEAD];
         let Ok(()) = read_ring(host, self.size, self.position, &mut head) else {
@@ -117,6 +118,7 @@ fn read_more<H: Host>(
     ensures seen { H.tells → Agree (H.disk host.old).seen (H.disk host.new).seen }
     ensures added { OnOk result ((bytes : List ℕ) × (length bytes ≡ count) × (into.new ≡ into.old ++ bytes) × (H.tells → StandsAt (ring_byte size (H.disk host.old).seen) position bytes)) }
     ensures cause { HasCause (H.faults host.old) (H.faults host.new) result }
+    ensures say_faults { H.say_faults host.new ≡ H.say_faults host.old }
 {
     let mut piece = [0u8; 8192];
     let (bytes, _) = piece.split_at_mut(count);
@@ -142,6 +144,7 @@ fn read_group<H: Host>(
     ensures len { OnOk result (length into.new ≡ bytes) }
     ensures bytes { OnOk result (H.tells → StandsAt (ring_byte size (H.disk host.old).seen) position into.new) }
     ensures cause { HasCause (H.faults host.old) (H.faults host.new) result }
+    ensures say_faults { H.say_faults host.new ≡ H.say_faults host.old }
 {
     into.clear();
     let mut done = 0;
@@ -171,6 +174,7 @@ pub(crate) fn walk<H: Host>(
         → WalkEnds reader.old.start reader.old.number reader.new.position reader.new.number commits result }
     ensures later { H.faults host.old ≤ H.faults host.new }
     ensures cause { result ≡ Err PageFault.Failed → Rose (H.faults host.old) (H.faults host.new) }
+    ensures say_faults { H.say_faults host.new ≡ H.say_faults host.old }
 {
     while reader.position < reader.start + reader.size {
         match reader.next(host, into) {

@@ -63,6 +63,7 @@ impl Ring {
         ensures ring { H.tells → HasRing self.old.size (H.disk host.new).seen }
         ensures later { H.faults host.old ≤ H.faults host.new }
         ensures cause { result ≡ Err RingFault.Failed → Rose (H.faults host.old) (H.faults host.new) }
+        ensures say_faults { H.say_faults host.new ≡ H.say_faults host.old }
     {
         self.refusal(group.len() as u64)?;
         let Ok(()) = append_closed(host, self.size, self.end_position, group.closed()) else {
@@ -110,6 +111,7 @@ fn append_closed<H: Host>(host: &mut H, size: u64, end: u64, closed: &[u8]) -> R
         → Arrives (H.disk host.old) (H.disk host.new) (Appended size name end last changes)) }
     ensures ring { H.tells → HasRing size (H.disk host.new).seen }
     ensures cause { HasCause (H.faults host.old) (H.faults host.new) result }
+    ensures say_faults { H.say_faults host.new ≡ H.say_faults host.old }
 {
     write_ring_kept(host, size, end + 1, &closed[1..])?;
     write_ring_kept(host, size, end, &[OPEN])

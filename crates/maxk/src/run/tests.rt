@@ -1,7 +1,7 @@
 // Scripts over a host in memory: the lines that are built, the limits of the log, faults of the
 // outside, and a stop at each moment.
 use super::*;
-use mdb_host::{Device, MemHost, MemSource};
+use mdb_host::{Device, FileHost, MemHost, MemSource};
 use std::test::Fail;
 
 // A new log volume of so many pages, all of them zero, which no crash takes away.
@@ -166,5 +166,78 @@ fn each_stop_leaves_the_commit_whole_or_not_at_all(rt: HostRuntime) -> Result<()
             assert!(rt; found == AFTER || (at < end && found == BEFORE));
         }
     }
+    Ok(())
+}
+
+// The first bytes of the ring, and what a restart says of them: no group stands behind an open gate,
+// and anything may stand behind a closed one.
+const RINGS: [(&'static [u8], &'static [u8]); 5] = [
+    (&[0x4F; 8192], b"ERR 20 DAMAGED LOG 2 GROUP\n"),
+    (
+        b"\x4F\0\0\0\x2A\0\0\0\0\0\0\0\x07\0\0\0\0\0\0\0\x01\0\0\0\0\0\0\0\x01\0\0\0\x01\0\x01\x01\0\x01\0\x01kv",
+        b"ERR 20 DAMAGED LOG 2 GROUP\n",
+    ),
+    (
+        b"\x4F\0\0\0\x2A\0\0\0\0\0\0\0\x01\0\0\0\0\0\0\0\x01\0\0\0\0\0\0\0\x01\0\0\0\x01\0\x01\x01\0\x01\0\x01kv",
+        b"OK ONLINE 1\n",
+    ),
+    (b"\x9A\x03\x77\xD0\x4F\xFE\x21\x08\x6B", b"OK ONLINE 0\n"),
+    (
+        b"\x4F\x03\x77\xD0\x4F\xFE\x21\x08\x6B",
+        b"ERR 20 DAMAGED LOG 2 GROUP\n",
+    ),
+];
+
+#[test]
+fn a_ring_of_other_bytes_is_named(rt: HostRuntime) -> Result<(), Fail> {
+    for (bytes, want) in RINGS {
+        let mut host = MemHost::new(rt.alloc(), &[])?;
+        make_log(&mut host, 4);
+        assert_eq!(rt; write_log(&mut host, bytes), Ok(()));
+        assert_eq!(rt; run_script(&rt, &mut host, b"db_online\n")?, Status::Done);
+        assert_eq!(rt; host.output(), want);
+    }
+    Ok(())
+}
+
+// Writes the first bytes of the ring.
+fn write_log<H: Host>(host: &mut H, bytes: &[u8]) -> Result<(), Failed> {
+    if bytes.len() <= 8192 && host.size(Device::Log) == Some(4) {
+        host.write(Device::Log, 16384, bytes)
+    } else {
+        Err(Failed)
+    }
+}
+
+#[test]
+fn a_script_has_an_end(rt: HostRuntime) -> Result<(), Fail> {
+    let lines = vec![in rt.alloc(); b'\n'; 16_777_217]?;
+    let mut host = MemHost::new(rt.alloc(), &[])?;
+    let mut source = MemSource::new(rt.alloc(), &lines, 65_536, &[])?;
+    assert_eq!(rt; run(rt.alloc(), &mut host, &mut source), Status::LinesEnd);
+    assert!(rt; host.output().is_empty());
+    Ok(())
+}
+
+#[test]
+fn a_second_view_of_the_files_has_the_commit(rt: HostRuntime) -> Result<(), Fail> {
+    let mut first = FileHost::new(&rt, rt.alloc(), "db")?;
+    make_log(&mut first, 4);
+    let mut script = MemSource::new(
+        rt.alloc(),
+        b"db_online\ns 1 put 1 'k' 'v'\ns 1 commit\n",
+        7,
+        &[],
+    )?;
+    assert_eq!(rt; run(rt.alloc(), &mut first, &mut script), Status::Done);
+    let mut second = FileHost::new(&rt, rt.alloc(), "db")?;
+    let mut page = [0u8; 8192];
+    assert_eq!(rt; second.size(Device::Log), Some(4));
+    assert_eq!(rt; second.read(Device::Log, 16384, &mut page), Ok(()));
+    let mut copy = MemHost::new(rt.alloc(), &[])?;
+    make_log(&mut copy, 4);
+    assert_eq!(rt; write_log(&mut copy, &page), Ok(()));
+    assert_eq!(rt; run_script(&rt, &mut copy, AGAIN)?, Status::Done);
+    assert_eq!(rt; copy.output(), AFTER);
     Ok(())
 }

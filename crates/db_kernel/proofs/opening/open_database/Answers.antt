@@ -1,7 +1,7 @@
 use Rattle.std.proofs.Common.{arith}
 use Rattle.mdb_model.specs.declared.fault.Device.TheVariants.{Log}
 use Rattle.redo_ring.proofs.Places.{agree_on}
-use Rattle.db_kernel.proofs.Opened.{synced_stays, opened_refused, log_of_ring, redo_refused}
+use Rattle.db_kernel.proofs.Opened.{synced_stays, opened_refused, log_of_ring, redo_refused, redo_tells}
 use Rattle.db_kernel.proofs.opening.open_database.Goals as goal
 
 pub returns-in-Err-clause-finds : goal.returns-in-Err-clause-finds
@@ -36,3 +36,9 @@ returns-in-Err-redo-clause-finds g c told size commits is has log small =
     let found = c.in-Ok.ensures.finds told size commits is has log small in
     let there = log_of_ring c.in-Ok.ring size (g.H.Host.disk c.args.host.now).seen (g.H.Host.disk c.open_ring.new.host).seen commits c.in-Ok.ensures.whole found.0 (c.open_ring.ensures.seen told) log in
     redo_refused size commits c.in-Err-redo.fault c.refusal_of.result c.refusal_of.ensures (c.in-Err-redo.ensures.all told commits there (omega (arith, small, found.0)) found.1)
+
+pub returns-in-Err-redo-clause-damage : goal.returns-in-Err-redo-clause-damage
+returns-in-Err-redo-clause-damage g c told =
+    let there = c.in-Ok.ensures.log told in
+    redo_tells (g.H.Host.disk c.args.host.now).seen there.0 c.in-Err-redo.fault c.refusal_of.result c.refusal_of.ensures
+    (c.in-Err-redo.ensures.all told there.0 there.1.log there.1.room (omega (arith, there.1.ends)))

@@ -1,5 +1,5 @@
 use Rattle.redo_ring.proofs.Places.{agree_on}
-use Rattle.db_kernel.proofs.Opened.{start_refused, first_whole, ring_found, ring_refused}
+use Rattle.db_kernel.proofs.Opened.{start_refused, first_whole, ring_found, ring_refused, ring_damaged}
 use Rattle.db_kernel.proofs.opening.open_ring.Goals as goal
 
 pub returns-in-Err-clause-finds : goal.returns-in-Err-clause-finds
@@ -24,3 +24,7 @@ returns-in-Err-open-clause-finds g c told size commits is has log small =
     let same = c.in-Ok.ensures.finds told size is has in
     let whole = first_whole c.in-Ok.start size (g.H.Host.disk c.args.host.now).seen (g.H.Host.disk c.log_start.new.host).seen commits c.in-Ok.ensures.first same (c.log_start.ensures.seen told) log small in
     ring_refused c.in-Ok.start size commits c.in-Err-open.fault c.refusal_of.result c.refusal_of.ensures (c.in-Err-open.ensures.ends told commits commits whole)
+
+pub returns-in-Err-open-clause-damage : goal.returns-in-Err-open-clause-damage
+returns-in-Err-open-clause-damage g c told =
+    ring_damaged c.in-Ok.start c.in-Err-open.fault c.refusal_of.result (g.H.Host.disk c.args.host.now).seen (g.H.Host.disk c.log_start.new.host).seen c.in-Ok.ensures.first (c.log_start.ensures.seen told) (c.in-Ok.ensures.there told) (c.in-Err-open.ensures.finds told) c.refusal_of.ensures

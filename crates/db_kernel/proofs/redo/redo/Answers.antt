@@ -60,6 +60,7 @@ loop-reader-preserved g c =
           (next_left c.args.ring.now.size c.loop-reader.reader.size c.loop-reader.reader.start c.args.ring.now.name c.loop-reader.reader.name (g.H.Host.disk c.args.host.now).seen (g.H.Host.disk c.loop-reader.host).seen inv.size inv.name inv.start (inv.seen told) commits c.loop-reader.reader.position c.loop-reader.reader.number c.loop-reader.rows.rows left small c.next.new.into (Ok c.in-Ok-true.field-0) (c.in-Ok-true.ensures.next told))
           (ap Ok c.in-Ok-true.field-0-test) at count c.in-Ok.ensures;
       faults = omega (arith, inv.faults, c.next.ensures.later);
+      say_faults = omega (arith, inv.say_faults, c.next.ensures.say_faults);
     }
 
 pub returns-clause-all : goal.returns-clause-all

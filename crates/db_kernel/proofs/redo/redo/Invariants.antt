@@ -18,6 +18,7 @@ invariant-loop-reader g l = record {
   left : g.H.Host.tells → (commits : List Commit) → IsLog (ring_byte l.fn.ring.size (g.H.Host.disk l.fn.host).seen) l.fn.ring.name 0 0 commits → log_bytes commits < l.fn.ring.size
       → Redoing l.fn.ring.size l.fn.ring.name (ring_byte l.fn.ring.size (g.H.Host.disk l.fn.host).seen) commits l.reader.position l.reader.number l.rows.rows;
   faults : g.H.Host.faults l.fn.host ≤ g.H.Host.faults l.host;
+  say_faults : g.H.Host.say_faults l.host ≡ g.H.Host.say_faults l.fn.host;
 }
 
 abbrev pub decreases-loop-reader : goal.decreases-loop-reader

@@ -32,6 +32,7 @@ loop-count-init g c =
       meets = λ told. subst (λ (o : Option Database). Meets o d.seen) (sym none) tt;
       keeps = λ told. keeps_all d;
       faults = omega arith;
+      say_faults = omega arith;
       script = omega arith;
       progress = λ told bytes is_left ws off stand.
           subst (λ (o : Option (List ℕ)). Progress d d f f ws bytes c.new-kernel.result.database c.in-Ok.reader o 0) (sym is_left)
@@ -80,6 +81,7 @@ loop-count-preserved g c =
       meets = c.answer.ensures.meets;
       keeps = λ told. keeps_on d0 d1 d2 (inv.keeps told) (c.answer.ensures.keeps told);
       faults = omega (arith, inv.faults, c.answer.ensures.later);
+      say_faults = omega (arith, inv.say_faults, c.answer.ensures.say_cause.later);
       script = omega (arith, inv.script, c.advance.ensures.cause.later);
       progress = λ told bytes is_left ws off stand.
           let p = inv.progress told bytes is_left ws off stand in

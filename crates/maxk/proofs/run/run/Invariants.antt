@@ -15,6 +15,7 @@ invariant-loop-count g l = record {
   meets : g.H.Host.tells → Meets l.kernel.database (g.H.Host.disk l.host).seen;
   keeps : g.H.Host.tells → Keeps (g.H.Host.disk l.fn.host) (g.H.Host.disk l.host);
   faults : g.H.Host.faults l.fn.host ≤ g.H.Host.faults l.host;
+  say_faults : g.H.Host.say_faults l.fn.host ≤ g.H.Host.say_faults l.host;
   script : g.S.Source.faults l.fn.source ≤ g.S.Source.faults l.source;
   progress : g.H.Host.tells → (bytes : List ℕ) → g.S.Source.left l.fn.source ≡ Some bytes → (ws : List World) → AreOff ws → Stand no_pages Stands (g.H.Host.disk l.fn.host) ws
       → Progress (g.H.Host.disk l.fn.host) (g.H.Host.disk l.host) (g.H.Host.faults l.fn.host) (g.H.Host.faults l.host) ws bytes l.kernel.database l.reader (g.S.Source.left l.source) l.count;

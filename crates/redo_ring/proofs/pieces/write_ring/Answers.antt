@@ -22,4 +22,5 @@ loop-done-preserved g c =
           (rest_torn size c.args.position done 0 bytes _ (rest_is done bytes) so_far.within c.requires.fits before after (c.write_piece.ensures.seen told));
       written = λ told. written_more size c.args.position done c.in_ok-done.field-0 bytes _ (rest_is done bytes) so_far.within c.requires.fits before after (so_far.written told) (c.write_piece.ensures.seen told) (c.in_ok-done.ensures.written told);
       faults = omega (arith, c.write_piece.ensures.cause.later);
+      say_faults = omega (arith, c.loop-done.invariant.say_faults, c.write_piece.ensures.say_faults);
     }

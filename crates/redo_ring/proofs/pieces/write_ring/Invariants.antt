@@ -11,6 +11,7 @@ invariant-loop-done g l = record {
   seen : g.H.Host.tells → RingTorn l.size l.position (length l.bytes) (g.H.Host.disk l.fn.host).seen (g.H.Host.disk l.host).seen;
   written : g.H.Host.tells → (i : ℕ) → i < l.done → ring_byte l.size (g.H.Host.disk l.host).seen (l.position + i) ≡ get_or l.bytes i 0;
   faults : g.H.Host.faults l.fn.host ≤ g.H.Host.faults l.host;
+  say_faults : g.H.Host.say_faults l.host ≡ g.H.Host.say_faults l.fn.host;
 }
 
 -- proposed from the loop's first test

@@ -17,4 +17,5 @@ loop-done-preserved g c =
       seen = λ told e. c.read_more.ensures.seen told e ∙ inv.seen told e;
       stands = λ told. stands_more c.args.size c.args.position c.loop-done.done (g.H.Host.disk c.args.host.now).seen (g.H.Host.disk c.loop-done.host).seen c.loop-done.into added.0 c.read_more.new.into inv.len added.2 (inv.seen told) (inv.stands told) (added.3 told);
       faults = omega (arith, inv.faults, c.read_more.ensures.cause.later);
+      say_faults = omega (arith, inv.say_faults, c.read_more.ensures.say_faults);
     }

@@ -12,6 +12,7 @@ invariant-loop-done g l = record {
   seen : g.H.Host.tells → Agree (g.H.Host.disk l.fn.host).seen (g.H.Host.disk l.host).seen;
   stands : g.H.Host.tells → StandsAt (ring_byte l.size (g.H.Host.disk l.fn.host).seen) l.position l.into;
   faults : g.H.Host.faults l.fn.host ≤ g.H.Host.faults l.host;
+  say_faults : g.H.Host.say_faults l.host ≡ g.H.Host.say_faults l.fn.host;
 }
 
 abbrev pub decreases-loop-done : goal.decreases-loop-done

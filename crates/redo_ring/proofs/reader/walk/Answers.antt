@@ -35,6 +35,7 @@ loop-reader-preserved g c =
           (next_at c.args.reader.now.size c.loop-reader.reader.size c.args.reader.now.start c.loop-reader.reader.start c.loop-reader.reader.position c.loop-reader.reader.number c.args.reader.now.name c.loop-reader.reader.name (g.H.Host.disk c.args.host.now).seen (g.H.Host.disk c.loop-reader.host).seen inv.size inv.name inv.start (inv.seen told) c.next.new.into left.rest (Ok c.in-Ok-true.field-0) (c.in-Ok-true.ensures.next told left.rest (log_at c.args.reader.now.size c.loop-reader.reader.size c.args.reader.now.start c.loop-reader.reader.start c.loop-reader.reader.position c.loop-reader.reader.number c.args.reader.now.name c.loop-reader.reader.name (g.H.Host.disk c.args.host.now).seen (g.H.Host.disk c.loop-reader.host).seen inv.size inv.name inv.start (inv.seen told) left.rest left.log) (omega (arith, left.bytes, small, inv.start, inv.size))))
           (ap Ok c.in-Ok-true.field-0-test) at count;
       faults = omega (arith, inv.faults, c.next.ensures.later);
+      say_faults = omega (arith, inv.say_faults, c.next.ensures.say_faults);
     }
 
 pub returns-in-Ok-false-clause-calm : goal.returns-in-Ok-false-clause-calm

@@ -19,6 +19,7 @@ invariant-loop-reader g l = record {
   left : g.H.Host.tells → (commits : List Commit) → IsLog (ring_byte l.fn.reader.size (g.H.Host.disk l.fn.host).seen) l.fn.reader.name l.fn.reader.start l.fn.reader.number commits → log_bytes commits < l.fn.reader.size
       → Left l.fn.reader.size l.fn.reader.name (ring_byte l.fn.reader.size (g.H.Host.disk l.fn.host).seen) l.fn.reader.start l.fn.reader.number commits l.reader.position l.reader.number;
   faults : g.H.Host.faults l.fn.host ≤ g.H.Host.faults l.host;
+  say_faults : g.H.Host.say_faults l.host ≡ g.H.Host.say_faults l.fn.host;
 }
 
 abbrev pub decreases-loop-reader : goal.decreases-loop-reader

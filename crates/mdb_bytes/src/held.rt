@@ -1,0 +1,123 @@
+//! What the crates of tables, transactions and restarts stand on: keepers of rows, of undo files
+//! and of a log.
+ghost use Rattle.std.specs.Prelude.{◌≡◌, ℕ, List, ◌+◌, ◌≤◌, IsTrue, IfOk, OnOk};
+ghost use Rattle.std.specs.FinMap.{get, insert, remove};
+ghost use Rattle.mdb_model.specs.declared.change.Change.TheVariants.{Put, Del};
+ghost use Rattle.mdb_model.specs.Script.{is_table, is_key};
+ghost use Rattle.mdb_model.specs.Space.{table_pages, table_cost};
+ghost use Rattle.mdb_bytes.specs.Groups.{change_fits};
+ghost use Rattle.mdb_bytes.specs.Held.{
+  Holding,
+  IsRow,
+  next_row,
+  IsNextRow,
+  IsNextGroup,
+  HasPageCause,
+};
+
+use crate::group_buf::GroupBuf;
+use mdb_model::bytes::{KeyBuf, ValueBuf};
+use mdb_model::fault::PageFault;
+use mdb_model::name::Table;
+
+/// A keeper of rows, of undo files or of a log. It has no calls; the traits below say what a call
+/// does to what is held.
+pub trait Held {
+    /// Whether what is held is known: over pages, whether their bytes are told and keep the rules
+    /// on the form of pages, of trees and of undo files.
+    ghost is_known: { Self → Type 0 };
+
+    /// What is held.
+    ghost held: { Self → Holding };
+
+    /// How many more pages can be written without a savepoint.
+    ghost spare: { Self → ℕ };
+
+    /// How often a call on a device has failed.
+    ghost faults: { Self → ℕ };
+
+    /// The second value comes from the first by calls: it holds the same borrows.
+    ghost follows: { Self → Self → Type 0 };
+
+    ghost follows_itself: { (a : Self) → follows a a };
+
+    ghost follows_on: { (a b c : Self) → follows a b → follows b c → follows a c };
+}
+
+/// The rows of all tables. What else is held stays as it is in each call.
+pub trait Rows: Held {
+    /// The value of a row; false where there is no such row.
+    fn get(&mut self, table: Table, key: &[u8], into: &mut ValueBuf) -> Result<bool, PageFault>
+        requires table { IsTrue (is_table table.0) }
+        requires key { IsTrue (is_key key.now) }
+        ensures found { Self.is_known self.old → IfOk result (λ found. IsRow found (get (Self.held self.old).rows (table.0, key.now)) into.new.items) }
+        ensures same { Self.is_known self.old → OnOk result (Self.is_known self.new × (Self.held self.new ≡ Self.held self.old)) }
+        ensures spare { Self.spare self.old ≤ Self.spare self.new }
+        ensures cause { HasPageCause (Self.is_known self.old) (Self.faults self.old) (Self.faults self.new) result }
+        ensures follows { Self.follows self.old self.new };
+
+    /// Sets the value of a row.
+    fn put(&mut self, table: Table, key: &[u8], value: &[u8]) -> Result<(), PageFault>
+        requires fits { IsTrue (change_fits (Put table key.now value.now)) }
+        requires room { 40 ≤ Self.spare self.old }
+        ensures set { Self.is_known self.old → OnOk result (Self.is_known self.new
+            × (Self.held self.new ≡ record (Self.held self.old) { rows = insert (Self.held self.old).rows (table.0, key.now) value.now })) }
+        ensures spare { Self.spare self.old ≤ Self.spare self.new + 40 }
+        ensures cause { HasPageCause (Self.is_known self.old) (Self.faults self.old) (Self.faults self.new) result }
+        ensures follows { Self.follows self.old self.new };
+
+    /// Takes a row away; false where there is no such row.
+    fn del(&mut self, table: Table, key: &[u8]) -> Result<bool, PageFault>
+        requires fits { IsTrue (change_fits (Del table key.now)) }
+        requires room { 40 ≤ Self.spare self.old }
+        ensures found { Self.is_known self.old → IfOk result (λ found. (value : List ℕ) → IsRow found (get (Self.held self.old).rows (table.0, key.now)) value) }
+        ensures gone { Self.is_known self.old → OnOk result (Self.is_known self.new
+            × (Self.held self.new ≡ record (Self.held self.old) { rows = remove (Self.held self.old).rows (table.0, key.now) })) }
+        ensures spare { Self.spare self.old ≤ Self.spare self.new + 40 }
+        ensures cause { HasPageCause (Self.is_known self.old) (Self.faults self.old) (Self.faults self.new) result }
+        ensures follows { Self.follows self.old self.new };
+
+    /// The first row of a table whose key comes after `after`, which is empty at the start of a
+    /// scan; false where there is no later row.
+    fn scan_next(
+        &mut self,
+        table: Table,
+        after: &KeyBuf,
+        key: &mut KeyBuf,
+        value: &mut ValueBuf,
+    ) -> Result<bool, PageFault>
+        requires { IsTrue (is_table table.0) }
+        ensures found { Self.is_known self.old → IfOk result (λ found. IsNextRow found (next_row (Self.held self.old).rows table.0 after.now.items) key.new.items value.new.items) }
+        ensures same { Self.is_known self.old → OnOk result (Self.is_known self.new × (Self.held self.new ≡ Self.held self.old)) }
+        ensures spare { Self.spare self.old ≤ Self.spare self.new }
+        ensures cause { HasPageCause (Self.is_known self.old) (Self.faults self.old) (Self.faults self.new) result }
+        ensures follows { Self.follows self.old self.new };
+
+    /// How many pages a table has. They are no more than the space rule counts for its rows.
+    fn pages(&mut self, table: Table) -> Result<u32, PageFault>
+        requires { IsTrue (is_table table.0) }
+        ensures count { Self.is_known self.old → IfOk result (λ count. count ≤ table_pages (table_cost (Self.held self.old).rows (Self.held self.old).rows table.0)) }
+        ensures same { Self.is_known self.old → OnOk result (Self.is_known self.new × (Self.held self.new ≡ Self.held self.old)) }
+        ensures spare { Self.spare self.old ≤ Self.spare self.new }
+        ensures cause { HasPageCause (Self.is_known self.old) (Self.faults self.old) (Self.faults self.new) result }
+        ensures follows { Self.follows self.old self.new };
+}
+
+/// A row as it was before a transaction changed it: its value, or none where there was no row.
+#[derive(Drop)]
+pub struct UndoEntry {
+    pub table: Table,
+    pub key: KeyBuf,
+    pub before: Option<ValueBuf>,
+}
+
+/// The log, from some group on. What else is held stays as it is.
+pub trait LogRead: Held {
+    /// Reads the group of the first commit that is left; false at the end of the log.
+    fn next(&mut self, into: &mut GroupBuf) -> Result<bool, PageFault>
+        ensures found { Self.is_known self.old → IfOk result (λ found. IsNextGroup found (Self.held self.old).log (Self.held self.new).log into.new) }
+        ensures same { Self.is_known self.old → OnOk result (Self.is_known self.new × (Self.held self.new ≡ record (Self.held self.old) { log = (Self.held self.new).log })) }
+        ensures spare { Self.spare self.old ≤ Self.spare self.new }
+        ensures cause { HasPageCause (Self.is_known self.old) (Self.faults self.old) (Self.faults self.new) result }
+        ensures follows { Self.follows self.old self.new };
+}
