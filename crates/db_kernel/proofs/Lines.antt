@@ -1,37 +1,36 @@
--- Each line of the first stage as an entry of a run.
-use Rattle.std.proofs.Common.{◌≡◌, inr, refl, sym, subst, ap, ◌∙◌, ℕ, zero, suc, ◌+◌, ◌-◌, ◌<◌, ◌≤◌, Bool, true, false, not, ◌&&◌, ◌==◌, nat_lt, cond, min, List, [], ◌∷◌, ◌++◌, Option, Some, None, option_map, unwrap_or, Contains, All, length, IsTrue, lt-ltb, le-ltb, arith}
-use Rattle.std.specs.Prelude.{if◌then◌else◌, is_some, IsSome, IsNone}
+-- Each line that is built as an entry of a run.
+use Rattle.std.proofs.Common.{◌≡◌, eq-eqb, inr, refl, sym, subst, ap, ◌∙◌, ℕ, zero, suc, ◌+◌, ◌-◌, ◌<◌, ◌≤◌, Bool, true, false, not, ◌&&◌, ◌==◌, nat_lt, cond, min, List, [], ◌∷◌, ◌++◌, Option, Some, None, option_map, unwrap_or, Contains, All, length, IsTrue, lt-ltb, le-ltb, arith}
+use Rattle.std.specs.Prelude.{if◌then◌else◌, is_some, IsSome, IsNone, option_and_then}
 use Rattle.std.specs.List.{AllZip, list_any}
 use Rattle.std.specs.Ordering.{nat_cmp, eq_by_cmp}
-use Rattle.std.specs.FinMap.{FinMap, get, empty, insert, remove, same_map, same_entries_map, get-empty, get-insert, get-remove, nat_cmp-IsAntisymmetric}
-use Rattle.std.specs.Cmp.{nat_cmp_total}
+use Rattle.std.specs.FinMap.{FinMap, get, empty, remove, contains_key, get-insert}
+use Rattle.std.specs.Cmp.{nat_cmp_total, unsigned_tied}
 use Rattle.std.proofs.lemmas.List.Elements.{All-head, All-tail, All-cons, All-nil, All-append, Contains-append_left, Contains-append_right}
 use Rattle.mdb_model.specs.declared.change.Change.{Change}
-use Rattle.mdb_model.specs.declared.change.Change.TheVariants.{Put}
+use Rattle.mdb_model.specs.declared.change.Change.TheVariants.{Put, Del}
 use Rattle.mdb_model.specs.declared.change.Commit.{Commit}
 use Rattle.mdb_model.specs.declared.name.Session.{Session}
 use Rattle.mdb_model.specs.declared.name.Table.{Table}
 use Rattle.mdb_model.specs.declared.name.State.{State}
 use Rattle.mdb_model.specs.declared.name.State.TheVariants.{Offline, Online}
 use Rattle.mdb_model.specs.declared.script.Command.{Command}
-use Rattle.mdb_model.specs.declared.script.Command.TheVariants.{GetRow, PutRow, CommitWork, DbOnline, Kill}
+use Rattle.mdb_model.specs.declared.script.Command.TheVariants.{GetRow, PutRow, DelRow, ScanTable, CommitWork, RollbackWork, DbOnline, Kill}
 use Rattle.mdb_model.specs.declared.script.Refusal.{Refusal}
 use Rattle.mdb_model.specs.declared.script.Refusal.TheVariants.{Syntax, WrongState, Locked, TransactionLarge, LogFull, MemoryWanting, DeviceFailed}
-use Rattle.mdb_model.specs.declared.script.Reply.TheVariants.{Refused, OfflineNow, PutDone, NothingToCommit, Committed, OnlineAt}
-use Rattle.mdb_model.specs.Tables.{with_changes, with_commits}
+use Rattle.mdb_model.specs.declared.script.Reply.TheVariants.{Refused, NoRow, OfflineNow, PutDone, DelDone, ScanOpen, NothingToCommit, Committed, RolledBack, OnlineAt}
+use Rattle.mdb_model.specs.Tables.{place_of, with_commits}
 use Rattle.mdb_model.specs.Pages.{PageReading}
-use Rattle.mdb_model.specs.Worlds.{World, Transaction, Lock, ShareKey, ExclusiveKey, transaction, no_transaction, off, without_transaction}
+use Rattle.mdb_model.specs.Worlds.{World, Transaction, Lock, ShareKey, ExclusiveKey, ShareTable, transaction, no_transaction, off, without_transaction}
 use Rattle.mdb_model.specs.Sessions.{net_changes, holder, group_bytes}
 use Rattle.mdb_model.specs.Answers.{Answer, plain, refused, row_reply}
 use Rattle.mdb_model.specs.Stages.{is_built, rows_in_memory}
-use Rattle.mdb_model.specs.Steps.{Facts, done, Fits, locked, changed, committed_by, has_changes}
-use Rattle.mdb_model.specs.Refusals.{refusal, refusal_with, medium_full, first_cause, refuse_if, states_of, same_state, is_locked, too_large, log_full, wrong_state}
+use Rattle.mdb_model.specs.Steps.{Facts, done, Fits, locked, changed, committed_by, has_changes, rows_of}
+use Rattle.mdb_model.specs.Refusals.{refusal, refusal_with, medium_full, first_cause, refuse_if, states_of, same_state, too_large, log_full, wrong_state}
 use Rattle.mdb_model.specs.Runs.{Step, Entry, Stepped, Starved, Failed, FoundOut, AreOutcomes, AreAllOutcomes, may_want_memory}
 use Rattle.mdb_model.proofs.StepLemmas.{CommandStep-done, CommandStep-refused, first_cause-none}
-use Rattle.mdb_model.proofs.Computing.{maps}
 use Rattle.mdb_bytes.specs.LogReading.{log_bytes}
 use Rattle.mdb_bytes.specs.LogAlone.{at_rest}
-use Rattle.db_kernel.specs.Working.{working, sessions_of}
+use Rattle.db_kernel.specs.Working.{working, open_of, seen_by, with_lock, with_one_change}
 
 -- nothing was learnt
 abbrev pub no_facts : Facts
@@ -110,220 +109,277 @@ module _ (reading : PageReading) where
   pub entry_starved : (w : World) (line : Command) → IsTrue (may_want_memory w (Some line)) → OneStep w line (refused MemoryWanting) w
   entry_starved w line may = Starved ((may, refl), tt)
 
-  module _ (ring : ℕ) (commits : List Commit) (begun : Option Transaction) where
-    abbrev w : World
-    w = working ring commits begun
+  -- An open world, with the transactions of its sessions
+  module _ (ring : ℕ) (commits : List Commit) (sessions : FinMap nat_cmp Transaction) where
+    pub kill_open : OneStep (working ring commits sessions) Kill (plain OfflineNow) (at_rest ring commits)
+    kill_open = entry_done (working ring commits sessions) Kill refl refl tt
 
-    pub kill_open : OneStep (working ring commits begun) Kill (plain OfflineNow) (at_rest ring commits)
-    kill_open = entry_done (working ring commits begun) Kill refl refl tt
-
-    pub online_open : refusal reading (working ring commits begun) no_facts DbOnline ≡ Some (WrongState Online)
+    pub online_open : refusal reading (working ring commits sessions) no_facts DbOnline ≡ Some (WrongState Online)
     online_open = refl
 
-  -- no other session has a lock
-  pub free : (ring : ℕ) (commits : List Commit) (begun : Option Transaction) (lock : Lock) → holder (working ring commits begun) 1 lock ≡ None
-  free ring commits None lock = simp maps refl
-  free ring commits (Some x) lock = simp maps refl
+    -- who keeps a lock from a session
+    abbrev pub held_by : ℕ → Lock → Option Refusal
+    held_by session lock = option_map (λ other. Locked (record { 0 = other })) (holder (working ring commits sessions) session lock)
 
-  -- what session 1 has
-  pub own : (ring : ℕ) (commits : List Commit) (begun : Option Transaction) → transaction (working ring commits begun) 1 ≡ unwrap_or begun no_transaction
-  own ring commits None = simp maps refl
-  own ring commits (Some x) = simp maps refl
+    held : (session : ℕ) (lock : Lock) (other : ℕ) → holder (working ring commits sessions) session lock ≡ Some other → held_by session lock ≡ Some (Locked (record { 0 = other }))
+    held session lock other is = ap (option_map (λ other. Locked (record { 0 = other }))) is
 
-  -- Session 1
+    free : (session : ℕ) (lock : Lock) → holder (working ring commits sessions) session lock ≡ None → held_by session lock ≡ None
+    free session lock is = ap (option_map (λ other. Locked (record { 0 = other }))) is
 
-  abbrev pub one : Session
-  one = record { 0 = 1 }
+    -- a line that another session keeps off
+    kept_off : (line : Command) (other : ℕ) → refusal reading (working ring commits sessions) no_facts line ≡ Some (Locked (record { 0 = other }))
+        → OneStep (working ring commits sessions) line (refused (Locked (record { 0 = other }))) (working ring commits sessions)
+    kept_off line other is =
+        entry_refused (working ring commits sessions ∷ []) line (Locked (record { 0 = other }))
+        (All-cons (λ w. refusal reading w no_facts line ≡ Some (Locked (record { 0 = other }))) (working ring commits sessions) [] is (All-nil _))
 
-  over : (begun : Option Transaction) (y : Transaction) → insert (sessions_of begun) 1 y ≡ sessions_of (Some y)
-  over None y = refl
-  over (Some x) y = same_entries_map (insert (insert empty 1 x) 1 y) (insert empty 1 y) (simp maps refl)
+    only_first : (cause : Option Refusal) → first_cause (cause ∷ None ∷ None ∷ None ∷ []) ≡ cause
+    only_first None = refl
+    only_first (Some cause) = refl
 
-  got : (begun : Option Transaction) (y : Transaction) → get (insert (sessions_of begun) 1 y) 1 ≡ Some y
-  got None y = simp maps refl
-  got (Some x) y = simp maps refl
+    -- a read, and a scan
 
-  gone : (begun : Option Transaction) → remove (sessions_of begun) 1 ≡ empty
-  gone None = same_map nat_cmp_total nat_cmp-IsAntisymmetric (remove empty 1) empty (λ q. get-remove nat_cmp_total empty 1 q ∙ (λ i. cond (eq_by_cmp nat_cmp q 1) None (get-empty nat_cmp q i)) ∙ same_cases (eq_by_cmp nat_cmp q 1) None ∙ sym (get-empty nat_cmp q))
-    where
-      same_cases : (b : Bool) (n : Option Transaction) → cond b n n ≡ n
-      same_cases true n = refl
-      same_cases false n = refl
-  gone (Some x) = same_map nat_cmp_total nat_cmp-IsAntisymmetric (remove (insert empty 1 x) 1) empty (λ q.
-      get-remove nat_cmp_total (insert empty 1 x) 1 q ∙ (λ i. cond (eq_by_cmp nat_cmp q 1) None (inner q i)) ∙ same_cases (eq_by_cmp nat_cmp q 1) ∙ sym (get-empty nat_cmp q))
-    where
-      inner : (q : ℕ) → get (sessions_of (Some x)) q ≡ cond (eq_by_cmp nat_cmp q 1) (Some x) None
-      inner q = get-insert nat_cmp_total empty 1 x q ∙ (λ i. cond (eq_by_cmp nat_cmp q 1) (Some x) (get-empty nat_cmp q i))
+    get_refusal : (session : Session) (table : Table) (key : List ℕ)
+        → refusal reading (working ring commits sessions) no_facts (GetRow session table key) ≡ held_by session.0 (ShareKey (table.0, key))
+    get_refusal session table key = only_first (held_by session.0 (ShareKey (table.0, key)))
 
-      same_cases : (b : Bool) → cond b None (cond b (Some x) None) ≡ None
-      same_cases true = refl
-      same_cases false = refl
+    pub get_locked : (session : Session) (table : Table) (key : List ℕ) (other : ℕ) → holder (working ring commits sessions) session.0 (ShareKey (table.0, key)) ≡ Some other
+        → OneStep (working ring commits sessions) (GetRow session table key) (refused (Locked (record { 0 = other }))) (working ring commits sessions)
+    get_locked session table key other is = kept_off (GetRow session table key) other (get_refusal session table key ∙ held session.0 (ShareKey (table.0, key)) other is)
 
-  with_own : Option Transaction → Transaction
-  with_own begun = unwrap_or begun no_transaction
+    pub get_step : (session : Session) (table : Table) (key : List ℕ) → holder (working ring commits sessions) session.0 (ShareKey (table.0, key)) ≡ None
+        → OneStep (working ring commits sessions) (GetRow session table key)
+        (plain (row_reply (get (seen_by sessions session.0 (with_commits commits empty)) (table.0, key))))
+        (working ring commits (with_lock sessions session.0 (ShareKey (table.0, key))))
+    get_step session table key is =
+        entry_done (working ring commits sessions) (GetRow session table key) (get_refusal session table key ∙ free session.0 (ShareKey (table.0, key)) is) refl tt
 
-  module _ (ring : ℕ) (commits : List Commit) (begun : Option Transaction) where
-    -- a read
-    module _ (table : Table) (key : List ℕ) where
-      abbrev reading_line : Command
-      reading_line = GetRow (record { 0 = 1 }) table key
+    scan_refusal : (session : Session) (table : Table)
+        → refusal reading (working ring commits sessions) no_facts (ScanTable session table) ≡ held_by session.0 (ShareTable table.0)
+    scan_refusal session table = only_first (held_by session.0 (ShareTable table.0))
 
-      get_admitted : refusal reading (working ring commits begun) no_facts (GetRow (record { 0 = 1 }) table key) ≡ None
-      get_admitted i = first_cause (option_map (λ other. Locked (record { 0 = other })) (free ring commits begun (ShareKey (table.0, key)) i) ∷ None ∷ None ∷ None ∷ [])
+    pub scan_locked : (session : Session) (table : Table) (other : ℕ) → holder (working ring commits sessions) session.0 (ShareTable table.0) ≡ Some other
+        → OneStep (working ring commits sessions) (ScanTable session table) (refused (Locked (record { 0 = other }))) (working ring commits sessions)
+    scan_locked session table other is = kept_off (ScanTable session table) other (scan_refusal session table ∙ held session.0 (ShareTable table.0) other is)
 
-      abbrev pub having_read : Transaction
-      having_read = record (unwrap_or begun no_transaction) { locks = ShareKey (table.0, key) ∷ (unwrap_or begun no_transaction).locks }
-
-      get_first : OneStep (working ring commits begun) (GetRow (record { 0 = 1 }) table key)
-          (plain (row_reply (get (with_changes (unwrap_or begun no_transaction).changes (with_commits commits empty)) (table.0, key))))
-          (record (working ring commits begun) { sessions = insert (sessions_of begun) 1 having_read })
-      get_first =
-          subst (λ (u : Transaction). OneStep (working ring commits begun) (GetRow (record { 0 = 1 }) table key)
-          (plain (row_reply (get (with_changes u.changes (with_commits commits empty)) (table.0, key))))
-          (record (working ring commits begun) { sessions = insert (sessions_of begun) 1 (record u { locks = ShareKey (table.0, key) ∷ u.locks }) }))
-          (own ring commits begun)
-          (entry_done (working ring commits begun) (GetRow (record { 0 = 1 }) table key) get_admitted refl tt)
-
-      pub get_step : OneStep (working ring commits begun) (GetRow (record { 0 = 1 }) table key)
-          (plain (row_reply (get (with_changes (unwrap_or begun no_transaction).changes (with_commits commits empty)) (table.0, key))))
-          (working ring commits (Some having_read))
-      get_step =
-          subst (λ (s : FinMap nat_cmp Transaction). OneStep (working ring commits begun) (GetRow (record { 0 = 1 }) table key)
-          (plain (row_reply (get (with_changes (unwrap_or begun no_transaction).changes (with_commits commits empty)) (table.0, key))))
-          (record (working ring commits begun) { sessions = s }))
-          (over begun having_read) get_first
+    pub scan_step : (session : Session) (table : Table) → holder (working ring commits sessions) session.0 (ShareTable table.0) ≡ None
+        → OneStep (working ring commits sessions) (ScanTable session table)
+        (record { items = rows_of (seen_by sessions session.0 (with_commits commits empty)) table.0; reply = ScanOpen })
+        (working ring commits (with_lock sessions session.0 (ShareTable table.0)))
+    scan_step session table is =
+        entry_done (working ring commits sessions) (ScanTable session table) (scan_refusal session table ∙ free session.0 (ShareTable table.0) is) refl tt
 
     -- a change
-    module _ (table : Table) (key value : List ℕ) where
-      abbrev pub having_put : Transaction
-      having_put = record {
-        changes = (unwrap_or begun no_transaction).changes ++ Put table key value ∷ [];
-        locks = ExclusiveKey (table.0, key) ∷ (unwrap_or begun no_transaction).locks;
-      }
 
-      abbrev pub put_bytes : ℕ
-      put_bytes = group_bytes (net_changes ((unwrap_or begun no_transaction).changes ++ Put table key value ∷ []))
+    -- the bytes that a commit of the session has with one more change
+    abbrev pub bytes_with : ℕ → Change → ℕ
+    bytes_with session change = group_bytes (net_changes ((open_of sessions session).changes ++ change ∷ []))
 
-      put_world : changed (working ring commits begun) 1 (Put table key value) ≡ record (working ring commits begun) { sessions = insert (sessions_of begun) 1 having_put }
-      put_world i = record (working ring commits begun) {
-        sessions = insert (sessions_of begun) 1 (record { changes = (own ring commits begun i).changes ++ Put table key value ∷ []; locks = ExclusiveKey (table.0, key) ∷ (own ring commits begun i).locks });
-      }
-
-      after_changes : (transaction (changed (working ring commits begun) 1 (Put table key value)) 1).changes ≡ (unwrap_or begun no_transaction).changes ++ Put table key value ∷ []
-      after_changes = ap (λ (v : World). (transaction v 1).changes) put_world ∙ ap (λ (o : Option Transaction). (unwrap_or o no_transaction).changes) (got begun having_put)
-
-      size_cause : too_large reading (working ring commits begun) no_facts (PutRow (record { 0 = 1 }) table key value)
-          ≡ refuse_if (nat_lt (min 1048576 (ring - 1)) put_bytes) (TransactionLarge put_bytes)
-      size_cause i = refuse_if (nat_lt (min 1048576 (ring - 1)) (group_bytes (net_changes (after_changes i)))) (TransactionLarge (group_bytes (net_changes (after_changes i))))
-
-      only_size : (locked size room : Option Refusal) → locked ≡ None → room ≡ None → first_cause (locked ∷ size ∷ room ∷ None ∷ []) ≡ size
-      only_size locked size room e f = (λ i. first_cause (e i ∷ size ∷ f i ∷ None ∷ [])) ∙ alone size
-        where
-          alone : (size : Option Refusal) → first_cause (size ∷ None ∷ None ∷ []) ≡ size
-          alone None = refl
-          alone (Some cause) = refl
-
-      put_refusal : refusal reading (working ring commits begun) no_facts (PutRow (record { 0 = 1 }) table key value)
-          ≡ refuse_if (nat_lt (min 1048576 (ring - 1)) put_bytes) (TransactionLarge put_bytes)
-      put_refusal =
-          only_size (is_locked (working ring commits begun) (PutRow (record { 0 = 1 }) table key value)) (too_large reading (working ring commits begun) no_facts (PutRow (record { 0 = 1 }) table key value))
-          None
-          (λ i. option_map (λ other. Locked (record { 0 = other })) (free ring commits begun (ExclusiveKey (table.0, key)) i))
-          refl
-          ∙ size_cause
-
-      pub put_large : min 1048576 (ring - 1) < put_bytes → OneStep (working ring commits begun) (PutRow (record { 0 = 1 }) table key value) (refused (TransactionLarge put_bytes)) (working ring commits begun)
-      put_large large =
-          entry_refused (working ring commits begun ∷ []) (PutRow (record { 0 = 1 }) table key value) (TransactionLarge put_bytes)
-          (All-cons (λ w. refusal reading w no_facts (PutRow (record { 0 = 1 }) table key value) ≡ Some (TransactionLarge put_bytes)) (working ring commits begun) [] (put_refusal ∙ yes_cause) (All-nil _))
-        where
-          yes_cause : refuse_if (nat_lt (min 1048576 (ring - 1)) put_bytes) (TransactionLarge put_bytes) ≡ Some (TransactionLarge put_bytes)
-          yes_cause = let t : nat_lt (min 1048576 (ring - 1)) put_bytes ≡ true = lt-ltb _ _ large in λ i. refuse_if (t i) (TransactionLarge put_bytes)
-
-      pub put_step : put_bytes ≤ min 1048576 (ring - 1) → OneStep (working ring commits begun) (PutRow (record { 0 = 1 }) table key value) (plain PutDone) (working ring commits (Some having_put))
-      put_step small =
-          subst (λ (v : World). OneStep (working ring commits begun) (PutRow (record { 0 = 1 }) table key value) (plain PutDone) v)
-          (put_world ∙ (λ i. record (working ring commits begun) { sessions = over begun having_put i }))
-          (entry_done (working ring commits begun) (PutRow (record { 0 = 1 }) table key value) (put_refusal ∙ no_cause) refl tt)
-        where
-          no_cause : refuse_if (nat_lt (min 1048576 (ring - 1)) put_bytes) (TransactionLarge put_bytes) ≡ None
-          no_cause = let t : nat_lt (min 1048576 (ring - 1)) put_bytes ≡ false = le-ltb _ _ small in λ i. refuse_if (t i) (TransactionLarge put_bytes)
-
-    -- a commit
-    abbrev pub net : List Change
-    net = net_changes (unwrap_or begun no_transaction).changes
-
-    commit_refusal : (some : Bool) → has_changes (working ring commits begun) 1 ≡ some
-        → refusal reading (working ring commits begun) no_facts (CommitWork (record { 0 = 1 }))
-        ≡ refuse_if (some && nat_lt ring (log_bytes commits + group_bytes net + 1)) (LogFull (log_bytes commits) ring)
-    commit_refusal some is = alone (log_full (working ring commits begun) (CommitWork (record { 0 = 1 }))) ∙ cause
+    -- the changes of a session with one more
+    pub after_change : (session : ℕ) (change : Change) → (transaction (changed (working ring commits sessions) session change) session).changes ≡ (open_of sessions session).changes ++ change ∷ []
+    after_change session change =
+        ap (λ (o : Option Transaction). (unwrap_or o no_transaction).changes)
+        (get-insert nat_cmp_total sessions session (record { changes = (open_of sessions session).changes ++ change ∷ []; locks = ExclusiveKey (place_of change) ∷ (open_of sessions session).locks }) session
+        ∙ (λ i. cond (itself session i) (Some (record { changes = (open_of sessions session).changes ++ change ∷ []; locks = ExclusiveKey (place_of change) ∷ (open_of sessions session).locks })) (get sessions session)))
       where
-        alone : (cause : Option Refusal) → first_cause (cause ∷ []) ≡ cause
+        itself : (n : ℕ) → eq_by_cmp nat_cmp n n ≡ true
+        itself n = unsigned_tied n n ∙ eq-eqb n n refl
+
+    abbrev size_cause : ℕ → Option Refusal
+    size_cause bytes = refuse_if (nat_lt (min 1048576 (ring - 1)) bytes) (TransactionLarge bytes)
+
+    too_many : (bytes : ℕ) → min 1048576 (ring - 1) < bytes → size_cause bytes ≡ Some (TransactionLarge bytes)
+    too_many bytes large = let t : nat_lt (min 1048576 (ring - 1)) bytes ≡ true = lt-ltb _ _ large in λ i. refuse_if (t i) (TransactionLarge bytes)
+
+    not_too_many : (bytes : ℕ) → bytes ≤ min 1048576 (ring - 1) → size_cause bytes ≡ None
+    not_too_many bytes small = let t : nat_lt (min 1048576 (ring - 1)) bytes ≡ false = le-ltb _ _ small in λ i. refuse_if (t i) (TransactionLarge bytes)
+
+    first_two : (lock size : Option Refusal) → lock ≡ None → first_cause (lock ∷ size ∷ None ∷ None ∷ []) ≡ size
+    first_two lock size is = (λ i. first_cause (is i ∷ size ∷ None ∷ None ∷ [])) ∙ alone size
+      where
+        alone : (size : Option Refusal) → first_cause (None ∷ size ∷ None ∷ None ∷ []) ≡ size
         alone None = refl
         alone (Some cause) = refl
 
-        cause : log_full (working ring commits begun) (CommitWork (record { 0 = 1 })) ≡ refuse_if (some && nat_lt ring (log_bytes commits + group_bytes net + 1)) (LogFull (log_bytes commits) ring)
-        cause i = refuse_if (is i && nat_lt ring (log_bytes commits + group_bytes (net_changes (own ring commits begun i).changes) + 1)) (LogFull (log_bytes commits) ring)
+    first_lock : (lock size : Option Refusal) (cause : Refusal) → lock ≡ Some cause → first_cause (lock ∷ size ∷ None ∷ None ∷ []) ≡ Some cause
+    first_lock lock size cause is i = first_cause (is i ∷ size ∷ None ∷ None ∷ [])
 
-    has_some : (some : Bool) → (length (unwrap_or begun no_transaction).changes == 0) ≡ some → has_changes (working ring commits begun) 1 ≡ not some
-    has_some some is = (λ i. not (length (own ring commits begun i).changes == 0)) ∙ ap not is
+    large : (line : Command) (bytes : ℕ) → refusal reading (working ring commits sessions) no_facts line ≡ Some (TransactionLarge bytes)
+        → OneStep (working ring commits sessions) line (refused (TransactionLarge bytes)) (working ring commits sessions)
+    large line bytes is =
+        entry_refused (working ring commits sessions ∷ []) line (TransactionLarge bytes)
+        (All-cons (λ w. refusal reading w no_facts line ≡ Some (TransactionLarge bytes)) (working ring commits sessions) [] is (All-nil _))
 
-    -- of nothing
-    pub commit_nothing : (length (unwrap_or begun no_transaction).changes == 0) ≡ true → OneStep (working ring commits begun) (CommitWork (record { 0 = 1 })) (plain NothingToCommit) (working ring commits None)
-    commit_nothing none =
-        subst (λ (p : Answer × World). OneStep (working ring commits begun) (CommitWork (record { 0 = 1 })) p.0 p.1) result
-        (entry_done (working ring commits begun) (CommitWork (record { 0 = 1 })) (commit_refusal false (has_some true none)) refl tt)
-      where
-        result : done reading (working ring commits begun) no_facts (CommitWork (record { 0 = 1 })) ≡ (plain NothingToCommit, working ring commits None)
-        result =
-            (λ i. if has_some true none i then (plain (Committed (0 + length commits + 1)), committed_by (working ring commits begun) 1) else (plain NothingToCommit, without_transaction (working ring commits begun) 1))
-            ∙ (λ i. (plain NothingToCommit, record (working ring commits begun) { sessions = gone begun i }))
+    module _ (session : Session) (table : Table) (key value : List ℕ) where
+      put_size : too_large reading (working ring commits sessions) no_facts (PutRow session table key value) ≡ size_cause (bytes_with session.0 (Put table key value))
+      put_size i = size_cause (group_bytes (net_changes (after_change session.0 (Put table key value) i)))
 
-    -- of something
-    module _ (some : (length (unwrap_or begun no_transaction).changes == 0) ≡ false) where
-      abbrev pub next_commits : List Commit
-      next_commits = commits ++ record { changes = net_changes (unwrap_or begun no_transaction).changes } ∷ []
+      pub put_locked : (other : ℕ) → holder (working ring commits sessions) session.0 (ExclusiveKey (table.0, key)) ≡ Some other
+          → OneStep (working ring commits sessions) (PutRow session table key value) (refused (Locked (record { 0 = other }))) (working ring commits sessions)
+      put_locked other is =
+          kept_off (PutRow session table key value) other
+          (first_lock (held_by session.0 (ExclusiveKey (table.0, key))) (too_large reading (working ring commits sessions) no_facts (PutRow session table key value)) (Locked (record { 0 = other })) (held session.0 (ExclusiveKey (table.0, key)) other is))
 
-      pub commit_full : ring < log_bytes commits + group_bytes net + 1 → OneStep (working ring commits begun) (CommitWork (record { 0 = 1 })) (refused (LogFull (log_bytes commits) ring)) (working ring commits begun)
-      commit_full full =
-          entry_refused (working ring commits begun ∷ []) (CommitWork (record { 0 = 1 })) (LogFull (log_bytes commits) ring)
-          (All-cons (λ w. refusal reading w no_facts (CommitWork (record { 0 = 1 })) ≡ Some (LogFull (log_bytes commits) ring)) (working ring commits begun) [] (commit_refusal true (has_some false some) ∙ yes_cause) (All-nil _))
+      module _ (is : holder (working ring commits sessions) session.0 (ExclusiveKey (table.0, key)) ≡ None) where
+        put_refusal : refusal reading (working ring commits sessions) no_facts (PutRow session table key value) ≡ size_cause (bytes_with session.0 (Put table key value))
+        put_refusal =
+            first_two (held_by session.0 (ExclusiveKey (table.0, key))) (too_large reading (working ring commits sessions) no_facts (PutRow session table key value)) (free session.0 (ExclusiveKey (table.0, key)) is)
+            ∙ put_size
+
+        pub put_large : min 1048576 (ring - 1) < bytes_with session.0 (Put table key value)
+            → OneStep (working ring commits sessions) (PutRow session table key value) (refused (TransactionLarge (bytes_with session.0 (Put table key value)))) (working ring commits sessions)
+        put_large too = large (PutRow session table key value) (bytes_with session.0 (Put table key value)) (put_refusal ∙ too_many (bytes_with session.0 (Put table key value)) too)
+
+        pub put_step : bytes_with session.0 (Put table key value) ≤ min 1048576 (ring - 1)
+            → OneStep (working ring commits sessions) (PutRow session table key value) (plain PutDone) (working ring commits (with_one_change sessions session.0 (Put table key value)))
+        put_step small = entry_done (working ring commits sessions) (PutRow session table key value) (put_refusal ∙ not_too_many (bytes_with session.0 (Put table key value)) small) refl tt
+
+    module _ (session : Session) (table : Table) (key : List ℕ) where
+      -- whether the session sees a row there
+      abbrev pub sees : Bool
+      sees = contains_key (seen_by sessions session.0 (with_commits commits empty)) (table.0, key)
+
+      -- what a deletion gives, by whether there is a row
+      abbrev del_done : Bool → Answer × World
+      del_done true = (plain DelDone, changed (working ring commits sessions) session.0 (Del table key))
+      del_done false = (plain NoRow, locked (working ring commits sessions) session.0 (ExclusiveKey (table.0, key)))
+
+      del_done_is : (row : Bool) → contains_key (seen_by sessions session.0 (with_commits commits empty)) (table.0, key) ≡ row
+          → done reading (working ring commits sessions) no_facts (DelRow session table key) ≡ del_done row
+      del_done_is row is =
+          (λ i. if is i then (plain DelDone, changed (working ring commits sessions) session.0 (Del table key)) else (plain NoRow, locked (working ring commits sessions) session.0 (ExclusiveKey (table.0, key))))
+          ∙ by_row row
         where
-          yes_cause : refuse_if (nat_lt ring (log_bytes commits + group_bytes net + 1)) (LogFull (log_bytes commits) ring) ≡ Some (LogFull (log_bytes commits) ring)
-          yes_cause = let t : nat_lt ring (log_bytes commits + group_bytes net + 1) ≡ true = lt-ltb _ _ full in λ i. refuse_if (t i) (LogFull (log_bytes commits) ring)
+          by_row : (b : Bool) → (if b then (plain DelDone, changed (working ring commits sessions) session.0 (Del table key)) else (plain NoRow, locked (working ring commits sessions) session.0 (ExclusiveKey (table.0, key)))) ≡ del_done b
+          by_row true = refl
+          by_row false = refl
 
-      module _ (room : log_bytes commits + group_bytes net + 1 ≤ ring) where
-        commit_admitted : refusal reading (working ring commits begun) no_facts (CommitWork (record { 0 = 1 })) ≡ None
-        commit_admitted = commit_refusal true (has_some false some) ∙ no_cause
+      abbrev del_size : Bool → Option Refusal
+      del_size true = size_cause (bytes_with session.0 (Del table key))
+      del_size false = None
+
+      -- the answer and the world, by a test
+      abbrev del_pair : Bool → Answer × World
+      del_pair row = if row then (plain DelDone, changed (working ring commits sessions) session.0 (Del table key)) else (plain NoRow, locked (working ring commits sessions) session.0 (ExclusiveKey (table.0, key)))
+
+      -- the size of the changes, by a test
+      abbrev del_size_by : Bool → Option Refusal
+      del_size_by row = option_and_then (λ s. size_cause (group_bytes (net_changes (transaction (del_pair row).1 s).changes))) (if row then Some session.0 else None)
+
+      del_size_is : (row : Bool) → contains_key (seen_by sessions session.0 (with_commits commits empty)) (table.0, key) ≡ row
+          → too_large reading (working ring commits sessions) no_facts (DelRow session table key) ≡ del_size row
+      del_size_is row is = (λ i. del_size_by (is i)) ∙ by_row row
+        where
+          by_row : (b : Bool) → del_size_by b ≡ del_size b
+          by_row true = λ i. size_cause (group_bytes (net_changes (after_change session.0 (Del table key) i)))
+          by_row false = refl
+
+      pub del_locked : (other : ℕ) → holder (working ring commits sessions) session.0 (ExclusiveKey (table.0, key)) ≡ Some other
+          → OneStep (working ring commits sessions) (DelRow session table key) (refused (Locked (record { 0 = other }))) (working ring commits sessions)
+      del_locked other is =
+          kept_off (DelRow session table key) other
+          (first_lock (held_by session.0 (ExclusiveKey (table.0, key))) (too_large reading (working ring commits sessions) no_facts (DelRow session table key)) (Locked (record { 0 = other })) (held session.0 (ExclusiveKey (table.0, key)) other is))
+
+      module _ (is : holder (working ring commits sessions) session.0 (ExclusiveKey (table.0, key)) ≡ None) where
+        del_refusal : (row : Bool) → contains_key (seen_by sessions session.0 (with_commits commits empty)) (table.0, key) ≡ row
+            → refusal reading (working ring commits sessions) no_facts (DelRow session table key) ≡ del_size row
+        del_refusal row seen =
+            first_two (held_by session.0 (ExclusiveKey (table.0, key))) (too_large reading (working ring commits sessions) no_facts (DelRow session table key)) (free session.0 (ExclusiveKey (table.0, key)) is)
+            ∙ del_size_is row seen
+
+        del_entry : (row : Bool) → contains_key (seen_by sessions session.0 (with_commits commits empty)) (table.0, key) ≡ row → del_size row ≡ None
+            → OneStep (working ring commits sessions) (DelRow session table key) (del_done row).0 (del_done row).1
+        del_entry row seen small =
+            subst (λ (p : Answer × World). OneStep (working ring commits sessions) (DelRow session table key) p.0 p.1) (del_done_is row seen)
+            (entry_done (working ring commits sessions) (DelRow session table key) (del_refusal row seen ∙ small) refl tt)
+
+        pub del_large : contains_key (seen_by sessions session.0 (with_commits commits empty)) (table.0, key) ≡ true → min 1048576 (ring - 1) < bytes_with session.0 (Del table key)
+            → OneStep (working ring commits sessions) (DelRow session table key) (refused (TransactionLarge (bytes_with session.0 (Del table key)))) (working ring commits sessions)
+        del_large seen too = large (DelRow session table key) (bytes_with session.0 (Del table key)) (del_refusal true seen ∙ too_many (bytes_with session.0 (Del table key)) too)
+
+        pub del_step : contains_key (seen_by sessions session.0 (with_commits commits empty)) (table.0, key) ≡ true → bytes_with session.0 (Del table key) ≤ min 1048576 (ring - 1)
+            → OneStep (working ring commits sessions) (DelRow session table key) (plain DelDone) (working ring commits (with_one_change sessions session.0 (Del table key)))
+        del_step seen small = del_entry true seen (not_too_many (bytes_with session.0 (Del table key)) small)
+
+        pub del_none : contains_key (seen_by sessions session.0 (with_commits commits empty)) (table.0, key) ≡ false
+            → OneStep (working ring commits sessions) (DelRow session table key) (plain NoRow) (working ring commits (with_lock sessions session.0 (ExclusiveKey (table.0, key))))
+        del_none seen = del_entry false seen refl
+
+    -- the end of a transaction
+
+    pub rollback_step : (session : Session) → OneStep (working ring commits sessions) (RollbackWork session) (plain RolledBack) (working ring commits (remove sessions session.0))
+    rollback_step session = entry_done (working ring commits sessions) (RollbackWork session) refl refl tt
+
+    module _ (session : Session) where
+      -- the changes that are committed
+      abbrev pub net : List Change
+      net = net_changes (open_of sessions session.0).changes
+
+      commit_refusal : (some : Bool) → has_changes (working ring commits sessions) session.0 ≡ some
+          → refusal reading (working ring commits sessions) no_facts (CommitWork session)
+          ≡ refuse_if (some && nat_lt ring (log_bytes commits + group_bytes net + 1)) (LogFull (log_bytes commits) ring)
+      commit_refusal some is = alone (log_full (working ring commits sessions) (CommitWork session)) ∙ cause
+        where
+          alone : (cause : Option Refusal) → first_cause (cause ∷ []) ≡ cause
+          alone None = refl
+          alone (Some cause) = refl
+
+          cause : log_full (working ring commits sessions) (CommitWork session) ≡ refuse_if (some && nat_lt ring (log_bytes commits + group_bytes net + 1)) (LogFull (log_bytes commits) ring)
+          cause i = refuse_if (is i && nat_lt ring (log_bytes commits + group_bytes net + 1)) (LogFull (log_bytes commits) ring)
+
+      has_some : (some : Bool) → (length (open_of sessions session.0).changes == 0) ≡ some → has_changes (working ring commits sessions) session.0 ≡ not some
+      has_some some is = ap not is
+
+      -- of nothing
+      pub commit_nothing : (length (open_of sessions session.0).changes == 0) ≡ true → OneStep (working ring commits sessions) (CommitWork session) (plain NothingToCommit) (working ring commits (remove sessions session.0))
+      commit_nothing none =
+          subst (λ (p : Answer × World). OneStep (working ring commits sessions) (CommitWork session) p.0 p.1) result
+          (entry_done (working ring commits sessions) (CommitWork session) (commit_refusal false (has_some true none)) refl tt)
+        where
+          result : done reading (working ring commits sessions) no_facts (CommitWork session) ≡ (plain NothingToCommit, working ring commits (remove sessions session.0))
+          result i = if has_some true none i then (plain (Committed (0 + length commits + 1)), committed_by (working ring commits sessions) session.0) else (plain NothingToCommit, without_transaction (working ring commits sessions) session.0)
+
+      -- of something
+      module _ (some : (length (open_of sessions session.0).changes == 0) ≡ false) where
+        abbrev pub next_commits : List Commit
+        next_commits = commits ++ record { changes = net_changes (open_of sessions session.0).changes } ∷ []
+
+        pub commit_full : ring < log_bytes commits + group_bytes net + 1 → OneStep (working ring commits sessions) (CommitWork session) (refused (LogFull (log_bytes commits) ring)) (working ring commits sessions)
+        commit_full full =
+            entry_refused (working ring commits sessions ∷ []) (CommitWork session) (LogFull (log_bytes commits) ring)
+            (All-cons (λ w. refusal reading w no_facts (CommitWork session) ≡ Some (LogFull (log_bytes commits) ring)) (working ring commits sessions) [] (commit_refusal true (has_some false some) ∙ yes_cause) (All-nil _))
           where
-            no_cause : refuse_if (nat_lt ring (log_bytes commits + group_bytes net + 1)) (LogFull (log_bytes commits) ring) ≡ None
-            no_cause = let t : nat_lt ring (log_bytes commits + group_bytes net + 1) ≡ false = le-ltb _ _ room in λ i. refuse_if (t i) (LogFull (log_bytes commits) ring)
+            yes_cause : refuse_if (nat_lt ring (log_bytes commits + group_bytes net + 1)) (LogFull (log_bytes commits) ring) ≡ Some (LogFull (log_bytes commits) ring)
+            yes_cause = let t : nat_lt ring (log_bytes commits + group_bytes net + 1) ≡ true = lt-ltb _ _ full in λ i. refuse_if (t i) (LogFull (log_bytes commits) ring)
 
-        commit_result : done reading (working ring commits begun) no_facts (CommitWork (record { 0 = 1 })) ≡ (plain (Committed (0 + length commits + 1)), working ring next_commits None)
-        commit_result =
-            (λ i. if has_some false some i then (plain (Committed (0 + length commits + 1)), committed_by (working ring commits begun) 1) else (plain NothingToCommit, without_transaction (working ring commits begun) 1))
-            ∙ (λ i. (
-              plain (Committed (0 + length commits + 1)),
-              record (working ring (commits ++ record { changes = net_changes (own ring commits begun i).changes } ∷ []) begun) { sessions = gone begun i },
-            ))
+        module _ (room : log_bytes commits + group_bytes net + 1 ≤ ring) where
+          commit_admitted : refusal reading (working ring commits sessions) no_facts (CommitWork session) ≡ None
+          commit_admitted = commit_refusal true (has_some false some) ∙ no_cause
+            where
+              no_cause : refuse_if (nat_lt ring (log_bytes commits + group_bytes net + 1)) (LogFull (log_bytes commits) ring) ≡ None
+              no_cause = let t : nat_lt ring (log_bytes commits + group_bytes net + 1) ≡ false = le-ltb _ _ room in λ i. refuse_if (t i) (LogFull (log_bytes commits) ring)
 
-        pub commit_step : OneStep (working ring commits begun) (CommitWork (record { 0 = 1 })) (plain (Committed (0 + length commits + 1))) (working ring next_commits None)
-        commit_step =
-            subst (λ (p : Answer × World). OneStep (working ring commits begun) (CommitWork (record { 0 = 1 })) p.0 p.1) commit_result
-            (entry_done (working ring commits begun) (CommitWork (record { 0 = 1 })) commit_admitted refl tt)
+          commit_result : done reading (working ring commits sessions) no_facts (CommitWork session) ≡ (plain (Committed (0 + length commits + 1)), working ring next_commits (remove sessions session.0))
+          commit_result i = if has_some false some i then (plain (Committed (0 + length commits + 1)), committed_by (working ring commits sessions) session.0) else (plain NothingToCommit, without_transaction (working ring commits sessions) session.0)
 
-        -- a stop inside it leaves the commits without it or with it
-        pub commit_outcomes : AreOutcomes reading (working ring commits begun) (Some (CommitWork (record { 0 = 1 }))) (at_rest ring commits ∷ at_rest ring next_commits ∷ [])
-        commit_outcomes = (
-          Some no_facts,
-          (ap is_some commit_admitted, tt),
-          (λ i. at_rest ring commits ∷ off (sym commit_result i).1 ∷ []),
-        )
+          pub commit_step : OneStep (working ring commits sessions) (CommitWork session) (plain (Committed (0 + length commits + 1))) (working ring next_commits (remove sessions session.0))
+          commit_step =
+              subst (λ (p : Answer × World). OneStep (working ring commits sessions) (CommitWork session) p.0 p.1) commit_result
+              (entry_done (working ring commits sessions) (CommitWork session) commit_admitted refl tt)
 
-        pub commit_failed : Entry reading (working ring commits begun ∷ []) (Some (CommitWork (record { 0 = 1 }))) (refused DeviceFailed) (at_rest ring commits ∷ at_rest ring next_commits ∷ [])
-        commit_failed =
-            Failed (working ring commits begun) [] (at_rest ring commits ∷ at_rest ring next_commits ∷ [], [], refl, commit_outcomes, refl) (0, omega arith, refl)
-            (no_facts, (done reading (working ring commits begun) no_facts (CommitWork (record { 0 = 1 }))).0.items, refl)
+          -- a stop inside it leaves the commits without it or with it
+          pub commit_outcomes : AreOutcomes reading (working ring commits sessions) (Some (CommitWork session)) (at_rest ring commits ∷ at_rest ring next_commits ∷ [])
+          commit_outcomes = (
+            Some no_facts,
+            (ap is_some commit_admitted, tt),
+            (λ i. at_rest ring commits ∷ off (sym commit_result i).1 ∷ []),
+          )
+
+          pub commit_failed : Entry reading (working ring commits sessions ∷ []) (Some (CommitWork session)) (refused DeviceFailed) (at_rest ring commits ∷ at_rest ring next_commits ∷ [])
+          commit_failed =
+              Failed (working ring commits sessions) [] (at_rest ring commits ∷ at_rest ring next_commits ∷ [], [], refl, commit_outcomes, refl) (0, omega arith, refl)
+              (no_facts, (done reading (working ring commits sessions) no_facts (CommitWork session)).0.items, refl)
 
   -- A restart, in any worlds that are at rest
 
@@ -331,12 +387,12 @@ module _ (reading : PageReading) where
   AtRest w = off w ≡ w
 
   pub entry_online : (ring : ℕ) (commits : List Commit) (ws : List World) → Contains ws (at_rest ring commits)
-      → Entry reading ws (Some DbOnline) (plain (OnlineAt (0 + length commits))) (working ring commits None ∷ [])
+      → Entry reading ws (Some DbOnline) (plain (OnlineAt (0 + length commits))) (working ring commits empty ∷ [])
   entry_online ring commits [] there = absurd (omega (arith, there.1))
-  entry_online ring commits (x ∷ []) (zero, inside, is) = subst (λ (u : World). Entry reading (u ∷ []) (Some DbOnline) (plain (OnlineAt (0 + length commits))) (working ring commits None ∷ [])) (sym is) (entry_done (at_rest ring commits) DbOnline refl refl tt)
+  entry_online ring commits (x ∷ []) (zero, inside, is) = subst (λ (u : World). Entry reading (u ∷ []) (Some DbOnline) (plain (OnlineAt (0 + length commits))) (working ring commits empty ∷ [])) (sym is) (entry_done (at_rest ring commits) DbOnline refl refl tt)
   entry_online ring commits (x ∷ []) (suc k, inside, is) = absurd (omega arith)
   entry_online ring commits (x ∷ y ∷ ws) there =
-      FoundOut (at_rest ring commits) (working ring commits None) refl (omega arith) there (no_facts, CommandStep-done reading (at_rest ring commits) no_facts DbOnline refl refl tt) (λ is. let e : OnlineAt (0 + length commits) ≡ Refused DeviceFailed = ap (λ (a : Answer). a.reply) is in cc) (λ is. let e : OnlineAt (0 + length commits) ≡ Refused MemoryWanting = ap (λ (a : Answer). a.reply) is in cc)
+      FoundOut (at_rest ring commits) (working ring commits empty) refl (omega arith) there (no_facts, CommandStep-done reading (at_rest ring commits) no_facts DbOnline refl refl tt) (λ is. let e : OnlineAt (0 + length commits) ≡ Refused DeviceFailed = ap (λ (a : Answer). a.reply) is in cc) (λ is. let e : OnlineAt (0 + length commits) ≡ Refused MemoryWanting = ap (λ (a : Answer). a.reply) is in cc)
 
   may_starve : (w : World) → AtRest w → IsTrue (may_want_memory w (Some DbOnline))
   may_starve w rest = ap (λ (v : World). may_want_memory v (Some DbOnline)) (sym rest)

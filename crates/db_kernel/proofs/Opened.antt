@@ -1,5 +1,5 @@
 -- The log and the database of it, once they are opened.
-use Rattle.std.proofs.Common.{◌≡◌, ◌∙◌, sym, subst, ℕ, ◌<◌, List, Ok, Err, inl, inr, arith}
+use Rattle.std.proofs.Common.{◌≡◌, ◌∙◌, sym, subst, ℕ, ◌<◌, List, Ok, Err, inr, arith}
 use Rattle.mdb_model.specs.declared.change.Commit.{Commit}
 use Rattle.mdb_model.specs.declared.fault.Device.{Device}
 use Rattle.mdb_model.specs.declared.fault.OpenFault.{OpenFault}

@@ -1,8 +1,10 @@
 -- A restart.
-use Rattle.std.proofs.Common.{◌≡◌, ◌≢◌, refl, sym, subst, ap, ◌∙◌, ℕ, ◌+◌, ◌%◌, ◌<◌, true, false, is_some, List, [], ◌∷◌, length, Option, Some, None, Contains, Err, arith}
+use Rattle.std.proofs.Common.{◌≡◌, refl, sym, subst, ap, ◌∙◌, ℕ, ◌+◌, ◌-◌, ◌%◌, min, true, false, is_some, List, [], ◌∷◌, length, Option, Some, None, Contains, Err, arith}
+use Rattle.std.specs.Ordering.{nat_cmp}
+use Rattle.std.specs.FinMap.{FinMap, empty, get-empty}
 use Rattle.std.proofs.lemmas.List.Elements.{All-contains, All-cons, All-nil}
+use Rattle.transactions.proofs.Machine.{stands-none}
 use Rattle.mdb_model.specs.declared.change.Commit.{Commit}
-use Rattle.mdb_model.specs.declared.fault.Device.{Device}
 use Rattle.mdb_model.specs.declared.fault.Device.TheVariants.{Log}
 use Rattle.mdb_model.specs.declared.name.State.TheVariants.{Online}
 use Rattle.mdb_model.specs.declared.script.Command.TheVariants.{DbOnline}
@@ -20,9 +22,13 @@ use Rattle.mdb_bytes.specs.LogAlone.{Stands, at_rest, first_name}
 use Rattle.mdb_bytes.specs.LogReading.{IsLog}
 use Rattle.db_kernel.specs.declared.database.Database.{Database}
 use Rattle.db_kernel.specs.Kept.{AreOff, IsAt, Fits, IsOf, OpenedIs}
+use Rattle.mdb_model.specs.Tables.{place_cmp}
+use Rattle.mdb_bytes.specs.Rings.{ring_byte}
+use Rattle.db_kernel.specs.Sessions.{HasKeys}
 use Rattle.db_kernel.specs.Stretch.{Stand, Completes}
 use Rattle.db_kernel.specs.Working.{StandsOf, no_pages, working}
 use Rattle.db_kernel.proofs.Doing.{does_calm}
+use Rattle.db_kernel.proofs.Keys.{keys_of_log}
 use Rattle.db_kernel.proofs.Lines.{entry_refused, entry_online, online_starved, online_failed, online_open, no_facts}
 
 module _ (d0 d1 : Disk) (ws : List World) (rest : AreOff ws) (stand : Stand no_pages Stands d0 ws) (calm : Goes d0 d1 Agree) where
@@ -103,23 +109,21 @@ module _ (d0 d1 : Disk) (ws : List World) (rest : AreOff ws) (stand : Stand no_p
       opening_done database is =
           subst (λ (n : ℕ). Completes no_pages Stands d0 d1 ws (Some DbOnline) (plain (OnlineAt n)) (IsAt database)) at
           (record {
-            after = working here.0.ring here.0.history.commits None ∷ [];
-            does = does_calm no_pages Stands d0 d1 ws (Some DbOnline) (plain (OnlineAt (0 + length here.0.history.commits))) (working here.0.ring here.0.history.commits None ∷ []) calm
+            after = working here.0.ring here.0.history.commits empty ∷ [];
+            does = does_calm no_pages Stands d0 d1 ws (Some DbOnline) (plain (OnlineAt (0 + length here.0.history.commits))) (working here.0.ring here.0.history.commits empty ∷ []) calm
                 (entry_online no_pages here.0.ring here.0.history.commits ws (subst (λ (w : World). Contains ws w) w_is here.1)) stand
-                (λ image left. (working here.0.ring here.0.history.commits None, (0, omega arith, refl), stands_again image left));
+                (λ image left. (working here.0.ring here.0.history.commits empty, (0, omega arith, refl), stands_again image left));
             fit = record {
-              changes = [];
-              last = is.none;
-              opened = record {
-                commits = here.0.history.commits;
-                begun = None;
-                is = ap (λ (n : ℕ). working n here.0.history.commits None ∷ []) (sym is.same_size);
-                rows = is.rows;
-                own = refl;
-                ends = is.at_end;
-                count = is.at_last;
-                room = omega (arith, is.at_end, is.same_size, here.2.room);
-              };
+              commits = here.0.history.commits;
+              sessions = empty;
+              is = ap (λ (n : ℕ). working n here.0.history.commits empty ∷ []) (sym is.same_size);
+              tables = is.rows;
+              keys = subst HasKeys (sym is.rows) (keys_of_log (ring_byte here.0.ring d0.seen) first_name 0 0 here.0.history.commits here.2.log empty (λ table. get-empty place_cmp (table, [])));
+              stands = stands-none database.transactions (working database.ring.size here.0.history.commits empty) is.free is.unchanged refl;
+              most = is.most ∙ (λ i. min 1048576 (sym is.same_size i - 1));
+              ends = is.at_end;
+              count = is.at_last;
+              room = omega (arith, is.at_end, is.same_size, here.2.room);
             };
           })
         where
@@ -127,7 +131,7 @@ module _ (d0 d1 : Disk) (ws : List World) (rest : AreOff ws) (stand : Stand no_p
           at = omega (arith, is.at_last)
 
 -- in Online
-entry_twice : (size : ℕ) (commits : List Commit) (begun : Option Transaction) → Entry no_pages (working size commits begun ∷ []) (Some DbOnline) (refused (WrongState Online)) (working size commits begun ∷ [])
+entry_twice : (size : ℕ) (commits : List Commit) (begun : FinMap nat_cmp Transaction) → Entry no_pages (working size commits begun ∷ []) (Some DbOnline) (refused (WrongState Online)) (working size commits begun ∷ [])
 entry_twice size commits begun =
     entry_refused no_pages (working size commits begun ∷ []) DbOnline (WrongState Online)
     (All-cons (λ w. refusal no_pages w no_facts DbOnline ≡ Some (WrongState Online)) (working size commits begun) [] (online_open no_pages size commits begun) (All-nil (λ w. refusal no_pages w no_facts DbOnline ≡ Some (WrongState Online))))
@@ -144,7 +148,7 @@ twice_open : (disk : Disk) (database : Database) (ws : List World) → IsAt data
     → Completes no_pages Stands disk disk ws (Some DbOnline) (refused (WrongState Online)) (IsAt database)
 twice_open disk database ws fit stand =
     twice disk ws (IsAt database)
-    (subst (λ (vs : List World). Entry no_pages vs (Some DbOnline) (refused (WrongState Online)) vs) (sym fit.opened.is) (entry_twice database.ring.size fit.opened.commits fit.opened.begun)) fit stand
+    (subst (λ (vs : List World). Entry no_pages vs (Some DbOnline) (refused (WrongState Online)) vs) (sym fit.is) (entry_twice database.ring.size fit.commits fit.sessions)) fit stand
 
 some_of : (database : Option Database) → is_some database ≡ true → (open_one : Database) × (database ≡ Some open_one)
 some_of None some = cc

@@ -2,6 +2,7 @@
 --     CommitDoes      the reply that is given, or a device failed and the database is off
 use Rattle.std.specs.Prelude.{List, Some, Result, Ok, Err}
 use Rattle.mdb_model.specs.declared.fault.Failed.{Failed}
+use Rattle.mdb_model.specs.declared.name.Session.{Session}
 use Rattle.mdb_model.specs.declared.script.Command.TheVariants.{CommitWork}
 use Rattle.mdb_model.specs.declared.script.Refusal.TheVariants.{DeviceFailed}
 use Rattle.mdb_model.specs.declared.script.Reply.{Reply}
@@ -14,6 +15,6 @@ use Rattle.db_kernel.specs.Kept.{IsAt, AreOff}
 use Rattle.db_kernel.specs.Stretch.{Completes}
 use Rattle.db_kernel.specs.Working.{no_pages}
 
-abbrev pub CommitDoes : (old new : Disk) → List World → (after : Database) → Result Reply Failed → Type 0
-CommitDoes old new ws after (Ok reply) = Completes no_pages Stands old new ws (Some (CommitWork (record { 0 = 1 }))) (plain reply) (IsAt after)
-CommitDoes old new ws after (Err failed) = Completes no_pages Stands old new ws (Some (CommitWork (record { 0 = 1 }))) (refused DeviceFailed) AreOff
+abbrev pub CommitDoes : (old new : Disk) → List World → Session → (after : Database) → Result Reply Failed → Type 0
+CommitDoes old new ws session after (Ok reply) = Completes no_pages Stands old new ws (Some (CommitWork session)) (plain reply) (IsAt after)
+CommitDoes old new ws session after (Err failed) = Completes no_pages Stands old new ws (Some (CommitWork session)) (refused DeviceFailed) AreOff

@@ -2,18 +2,31 @@
 --     IsWholeLog, Ready      the numbers of an open database fit each other
 --     IsAt, AreOff, Fits      a kernel with an open database, and one with none, against the worlds that may be
 --     Meets      the log of an open database is there
+--     answer_of, AreFew, AreKeyed, NextIs      the answer to a line with the rows of a scan, and how these are asked for
 --     as_refusal      how a fault is answered
 --     IsFirstStart, StartIs, RingIs, IsOf, OpenedIs      what opening a log of these commits gives
-use Rattle.std.specs.Prelude.{◌≡◌, ℕ, ◌<◌, ◌≤◌, List, length, Option, Some, None, Result, Ok, Err, All}
+use Rattle.std.specs.Prelude.{◌≡◌, ℕ, ◌-◌, ◌^◌, ◌<◌, ◌≤◌, List, length, Option, Some, None, Result, Ok, Err, All, false, min}
 use Rattle.std.specs.FinMap.{empty}
 use Rattle.mdb_model.specs.declared.change.Commit.{Commit}
+use Rattle.mdb_model.specs.declared.name.Session.{Session}
+use Rattle.mdb_model.specs.declared.name.Table.{Table}
+use Rattle.mdb_model.specs.declared.script.Command.{Command}
+use Rattle.mdb_model.specs.declared.script.Command.TheVariants.{ScanTable}
+use Rattle.mdb_model.specs.declared.script.Next.{Next}
+use Rattle.mdb_model.specs.declared.script.Next.TheVariants.{Row, End, Fault}
+use Rattle.mdb_model.specs.declared.script.Reply.{Reply}
 use Rattle.mdb_model.specs.declared.script.Refusal.{Refusal}
 use Rattle.mdb_model.specs.declared.fault.OpenFault.{OpenFault}
 use Rattle.mdb_model.specs.declared.fault.OpenFault.TheVariants.{Memory, Failed as OpenFailed, Damaged as OpenDamaged}
 use Rattle.mdb_model.specs.declared.script.Refusal.TheVariants.{Damaged, DeviceFailed, MemoryWanting}
 use Rattle.mdb_model.specs.Images.{Image}
-use Rattle.mdb_model.specs.Tables.{with_commits}
-use Rattle.mdb_model.specs.Worlds.{World, off}
+use Rattle.mdb_model.specs.Tables.{Tables, with_commits}
+use Rattle.mdb_model.specs.Answers.{Answer, plain}
+use Rattle.mdb_model.specs.Steps.{rows_of}
+use Rattle.mdb_model.specs.Worlds.{World, Lock, off}
+use Rattle.mdb_bytes.specs.Held.{next_row}
+use Rattle.record_locks.specs.Holders.{bars}
+use Rattle.transactions.specs.Ongoing.{changes_of}
 use Rattle.mdb_bytes.specs.LogAlone.{first_name}
 use Rattle.mdb_bytes.specs.LogReading.{log_bytes}
 use Rattle.mdb_bytes.specs.Rings.{HasRing}
@@ -22,7 +35,7 @@ use Rattle.redo_ring.specs.declared.open.LogStart.{LogStart}
 use Rattle.redo_ring.specs.Calls.{InOrder}
 use Rattle.redo_ring.specs.Opening.{ring_size}
 use Rattle.db_kernel.specs.declared.database.Database.{Database}
-use Rattle.db_kernel.specs.Working.{IsOpenNet}
+use Rattle.db_kernel.specs.Sessions.{IsOpen, HasKeys, scan_answer, seen_rows}
 
 -- the log of a database that has all its records in it: nothing is saved, and a restart reads it from its first position on
 pub record IsWholeLog (ring : Ring) : Type 0 where
@@ -37,7 +50,7 @@ Ready None = Unit {0}
 Ready (Some database) = IsWholeLog database.ring
 
 abbrev pub IsAt : Database → List World → Type 0
-IsAt database ws = IsOpenNet database.rows.rows database.transaction database.ring.size database.ring.end_position database.ring.last_commit ws
+IsAt database ws = IsOpen database.rows.rows database.transactions database.ring.size database.ring.end_position database.ring.last_commit ws
 
 abbrev pub AreOff : List World → Type 0
 AreOff ws = All (λ w. off w ≡ w) ws
@@ -49,6 +62,34 @@ Fits (Some database) ws = IsAt database ws
 abbrev pub Meets : Option Database → Image → Type 0
 Meets None image = Unit {0}
 Meets (Some database) image = HasRing database.ring.size image
+
+-- Answers
+
+-- the rows that a session sees, where a database is open
+abbrev pub scanned_rows : Option Database → Session → Tables
+scanned_rows None session = empty
+scanned_rows (Some database) session = seen_rows database.rows.rows database.transactions session.0
+
+-- the answer to a line, by its reply and what is open then
+abbrev pub answer_of : Command → Option Database → Reply → Answer
+answer_of (ScanTable session table) database reply = scan_answer (scanned_rows database session) table reply
+answer_of _ database reply = plain reply
+
+-- a scan has few rows enough to be counted
+abbrev pub AreFew : Command → Option Database → Type 0
+AreFew (ScanTable session table) database = length (rows_of (scanned_rows database session) table.0) < 2 ^ 64
+AreFew _ database = Unit {0}
+
+-- no row that the session sees has an empty key, so a scan may begin at it
+abbrev pub AreKeyed : Command → Option Database → Type 0
+AreKeyed (ScanTable session table) database = HasKeys (scanned_rows database session)
+AreKeyed _ database = Unit {0}
+
+-- the next row of a scan, or its end; a fault only where no database is open
+abbrev pub NextIs : Option Database → Session → Table → (after key value : List ℕ) → Next → Type 0
+NextIs database session table after key value Row = next_row (scanned_rows database session) table.0 after ≡ Some (key, value)
+NextIs database session table after key value End = next_row (scanned_rows database session) table.0 after ≡ None
+NextIs database session table after key value (Fault reply) = database ≡ None
 
 -- Opening
 
@@ -87,7 +128,10 @@ pub record IsOf (size : ℕ) (commits : List Commit) (database : Database) : Typ
   pub at_end : database.ring.end_position ≡ log_bytes commits
   pub at_last : database.ring.last_commit ≡ length commits
   pub rows : database.rows.rows ≡ with_commits commits empty
-  pub none : database.transaction ≡ empty
+  -- no session has locked or changed anything
+  pub free : (session : ℕ) (lock : Lock) → bars database.transactions.locks session lock ≡ false
+  pub unchanged : (session : ℕ) → changes_of database.transactions session ≡ empty
+  pub most : database.transactions.most ≡ min 1048576 (size - 1)
 
 abbrev pub OpenedIs : (size : ℕ) → List Commit → Result Database Refusal → Type 0
 OpenedIs size commits (Ok database) = IsOf size commits database

@@ -1,7 +1,9 @@
 pub mod Rows
+pub mod Scan
 pub mod Redo
 pub mod Stretch
 pub mod Working
+pub mod Sessions
 pub mod Kept
 pub mod Committing
 pub mod Damages

@@ -1,22 +1,20 @@
 -- The worlds that a kernel with rows in memory works on.
---     working      a world in Online, with the transaction of session 1
---     IsOpen      the world of an open database, by what the kernel keeps
---     IsOpenNet      the same with the changes of the transaction seen by their keys
+--     working      a world in Online, with the transactions of its sessions
+--     open_of, seen_by      what a session has done so far, and the rows that it sees
+--     with_lock, with_one_change      one more lock, one more change of a session
 --     Moves      a line that calls no device
-use Rattle.std.specs.Prelude.{◌≡◌, ℕ, ◌<◌, List, [], ◌∷◌, Option, Some, None, Contains, length, unwrap_or}
+use Rattle.std.specs.Prelude.{ℕ, List, [], ◌∷◌, ◌++◌, None, Contains, unwrap_or}
 use Rattle.std.specs.Ordering.{nat_cmp}
-use Rattle.std.specs.FinMap.{FinMap, empty, insert}
+use Rattle.std.specs.FinMap.{FinMap, get, insert}
 use Rattle.mdb_model.specs.declared.change.Change.{Change}
 use Rattle.mdb_model.specs.declared.change.Commit.{Commit}
 use Rattle.mdb_model.specs.declared.name.State.TheVariants.{Online}
 use Rattle.mdb_model.specs.Images.{Image}
-use Rattle.mdb_model.specs.Tables.{Tables, place_cmp, with_commits}
+use Rattle.mdb_model.specs.Tables.{Tables, place_of, with_changes}
 use Rattle.mdb_model.specs.Pages.{PageReading}
-use Rattle.mdb_model.specs.Worlds.{World, off, Transaction, no_transaction}
-use Rattle.mdb_model.specs.Sessions.{last_changes}
+use Rattle.mdb_model.specs.Worlds.{World, off, Transaction, no_transaction, Lock, ExclusiveKey}
 use Rattle.mdb_model.specs.Answers.{Answer}
 use Rattle.mdb_model.specs.Runs.{Line, Entry}
-use Rattle.mdb_bytes.specs.LogReading.{log_bytes}
 use Rattle.mdb_bytes.specs.LogAlone.{Stands, at_rest}
 
 -- no pages are read yet
@@ -28,27 +26,29 @@ no_pages = record {
   IsWellFormed = λ pages. ⊥;
 }
 
-abbrev pub sessions_of : Option Transaction → FinMap nat_cmp Transaction
-sessions_of None = empty
-sessions_of (Some x) = insert empty 1 x
+abbrev pub working : (ring : ℕ) → List Commit → FinMap nat_cmp Transaction → World
+working ring commits sessions = record (at_rest ring commits) { state = Online; sessions = sessions }
 
-abbrev pub working : (ring : ℕ) → List Commit → Option Transaction → World
-working ring commits begun = record (at_rest ring commits) { state = Online; sessions = sessions_of begun }
+-- what a session has done so far
+abbrev pub open_of : FinMap nat_cmp Transaction → ℕ → Transaction
+open_of sessions session = unwrap_or (get sessions session) no_transaction
 
-pub record IsOpen (tables : Tables) (changes : List Change) (size end number : ℕ) (ws : List World) : Type 0 where
-  pub commits : List Commit
-  pub begun : Option Transaction
-  pub is : ws ≡ working size commits begun ∷ []
-  pub rows : tables ≡ with_commits commits empty
-  pub own : changes ≡ (unwrap_or begun no_transaction).changes
-  pub ends : end ≡ log_bytes commits
-  pub count : number ≡ length commits
-  pub room : end < size
+-- the rows that it sees
+abbrev pub seen_by : FinMap nat_cmp Transaction → ℕ → Tables → Tables
+seen_by sessions session committed = with_changes (open_of sessions session).changes committed
 
-pub record IsOpenNet (tables : Tables) (net : FinMap place_cmp Change) (size end number : ℕ) (ws : List World) : Type 0 where
-  pub changes : List Change
-  pub last : net ≡ last_changes changes
-  pub opened : IsOpen tables changes size end number ws
+-- with one more lock of a session
+abbrev pub with_lock : FinMap nat_cmp Transaction → ℕ → Lock → FinMap nat_cmp Transaction
+with_lock sessions session lock =
+    insert sessions session (record (open_of sessions session) { locks = lock ∷ (open_of sessions session).locks })
+
+-- with one more change of a session, and its lock
+abbrev pub with_one_change : FinMap nat_cmp Transaction → ℕ → Change → FinMap nat_cmp Transaction
+with_one_change sessions session change =
+    insert sessions session (record {
+      changes = (open_of sessions session).changes ++ change ∷ [];
+      locks = ExclusiveKey (place_of change) ∷ (open_of sessions session).locks;
+    })
 
 -- one of these worlds is what the image stands for
 abbrev pub StandsOf : List World → Image → Type 0

@@ -1,49 +1,51 @@
-//! An open database: its rows in memory, the changes of session 1, and its log.
-ghost use Rattle.std.specs.Prelude.{◌≡◌, ℕ, ◌+◌, ◌-◌, ◌<◌, ◌≤◌, ◌^◌, List, map, min, IfOk, OnOk, OnErr, IsTrue, Some, Err, Ok};
+//! An open database: its rows in memory, what its sessions have locked and changed, and its log.
+ghost use Rattle.std.specs.Prelude.{◌≡◌, ℕ, ◌+◌, ◌-◌, ◌<◌, ◌≤◌, ◌^◌, List, map, min, length, IfOk, OnOk, OnErr, IsTrue, Err};
 ghost use Rattle.std.specs.List.{list_all};
-ghost use Rattle.std.specs.FinMap.{get, values};
-ghost use Rattle.mdb_model.specs.Answers.{plain, row_reply};
+ghost use Rattle.std.specs.FinMap.{len, values};
+ghost use Rattle.mdb_model.specs.Answers.{plain};
 ghost use Rattle.mdb_model.specs.Causes.{Rose, HasCause};
-ghost use Rattle.mdb_model.specs.declared.change.Change.TheVariants.{Put};
-ghost use Rattle.mdb_model.specs.declared.script.Command.TheVariants.{PutRow};
+ghost use Rattle.mdb_model.specs.declared.change.Change.TheVariants.{Put, Del};
+ghost use Rattle.mdb_model.specs.declared.script.Command.TheVariants.{GetRow, PutRow, DelRow, ScanTable, RollbackWork};
+ghost use Rattle.mdb_model.specs.Script.{is_session, is_table, is_key};
 ghost use Rattle.mdb_model.specs.Sessions.{group_bytes};
-ghost use Rattle.mdb_model.specs.Tables.{place_cmp, place_of};
+ghost use Rattle.mdb_model.specs.Steps.{rows_of};
+ghost use Rattle.mdb_model.specs.Tables.{place_cmp, place_of, with_changes};
 ghost use Rattle.mdb_model.specs.Worlds.{World};
 ghost use Rattle.mdb_host.specs.Disk.{Disk, Keeps, Goes, Arrives};
 ghost use Rattle.mdb_bytes.specs.Fields.{rises};
 ghost use Rattle.mdb_bytes.specs.Groups.{change_fits, longest_group};
+ghost use Rattle.mdb_bytes.specs.Held.{next_row, IsNextRow};
 ghost use Rattle.mdb_bytes.specs.LogAlone.{Stands};
 ghost use Rattle.mdb_bytes.specs.Rings.{HasRing};
 ghost use Rattle.redo_ring.specs.Calls.{AppendAnswer, Untouched};
 ghost use Rattle.redo_ring.specs.Ring.{Appends, Appended};
+ghost use Rattle.transactions.specs.Ongoing.{changes_of, Ended};
 ghost use Rattle.db_kernel.specs.Committing.{CommitDoes};
 ghost use Rattle.db_kernel.specs.Damages.{IsInside};
 ghost use Rattle.db_kernel.specs.Kept.{IsWholeLog, IsAt};
-ghost use Rattle.db_kernel.specs.Rows.{seen_row};
+ghost use Rattle.db_kernel.specs.Sessions.{HasKeys, scan_answer, seen_rows};
 ghost use Rattle.db_kernel.specs.Stretch.{Stand};
 ghost use Rattle.db_kernel.specs.Working.{Moves, no_pages};
 
+use crate::replies::{del_answer, get_answer, put_answer, scan_opened};
 use crate::rows::MemRows;
-use crate::transaction::OpenTransaction;
+use crate::scan::next_seen;
 use mdb_bytes::{GroupBuf, encode_group};
 use mdb_host::{Failed, Host};
-use mdb_model::bytes::{Key, Value};
+use mdb_model::bytes::{Key, KeyBuf, Value, ValueBuf};
 use mdb_model::change::Change;
-use mdb_model::name::Table;
+use mdb_model::name::{Session, Table};
 use mdb_model::script::{Refusal, Reply};
 use redo_ring::{Ring, RingFault};
-use std::alloc::Global;
-
-// The bytes that a group may have at most, whatever the log.
-const LONGEST_GROUP: u64 = 1_048_576;
+use transactions::Transactions;
 
 /// An open database.
 #[derive(Drop)]
 pub struct Database {
     /// The committed rows.
     pub rows: MemRows,
-    /// The changes of session 1.
-    pub transaction: OpenTransaction,
+    /// What the sessions have locked and changed.
+    pub transactions: Transactions,
     /// The log of all commits.
     pub ring: Ring,
     /// Room for one group.
@@ -51,42 +53,102 @@ pub struct Database {
 }
 
 impl Database {
-    /// The value of a row, as the transaction sees it.
-    pub fn get(&self, table: Table, key: &Key) -> Reply
-        ensures { result ≡ row_reply (seen_row (get self.now.transaction (table.0, key.now)) (get self.now.rows.rows (table.0, key.now))) }
-    {
-        match self.transaction.get(table, key.bytes()) {
-            Some(Change::Put(_, _, value)) => Reply::Found(value.to_buf()),
-            Some(Change::Del(_, _)) => Reply::NoRow,
-            None => match self.rows.get(table, key.bytes()) {
-                Some(value) => Reply::Found(value.to_buf()),
-                None => Reply::NoRow,
-            },
-        }
-    }
-
-    /// Puts a value, in the transaction alone.
-    pub fn put(&mut self, alloc: Global, table: Table, key: &Key, value: &Value) -> Reply
-        requires fits { IsTrue (change_fits (Put table key.now value.now)) }
-        requires log { IsWholeLog self.old.ring }
+    /// The value of a row, as the session sees it.
+    pub fn get(&mut self, session: Session, table: Table, key: &Key) -> Reply
+        requires session { IsTrue (is_session session.0) }
+        requires table { IsTrue (is_table table.0) }
+        requires key { IsTrue (is_key key.now) }
         ensures ring { self.new.ring ≡ self.old.ring }
-        ensures moves { (ws : List World) → IsAt self.old ws
-            → Moves ws (Some (PutRow (record { 0 = 1 }) table key.now value.now)) (plain result) (IsAt self.new) }
+        ensures moves { (ws : List World) → IsAt self.old ws → Moves ws (Some (GetRow session table key.now)) (plain result) (IsAt self.new) }
         ensures inside { IsInside result }
     {
-        let bytes = self.transaction.bytes_with(table, key, value);
-        if most_bytes(self.ring.size) < bytes {
-            return Reply::Refused(Refusal::TransactionLarge(bytes));
-        }
-        match self.transaction.put(alloc, table, key, value) {
-            Ok(()) => Reply::PutDone,
-            Err(_) => Reply::Refused(Refusal::MemoryWanting),
-        }
+        let mut value = ValueBuf::new();
+        let found = self
+            .transactions
+            .get(&mut self.rows, session, table, key, &mut value);
+        get_answer(found, value)
     }
 
-    /// Commits the transaction. Where a device fails, only reading the log again shows whether the
-    /// commit is kept.
-    pub fn commit<H: Host>(&mut self, alloc: Global, host: &mut H) -> Result<Reply, Failed>
+    /// Puts a value, in the session's transaction alone.
+    pub fn put(&mut self, session: Session, table: Table, key: &Key, value: &Value) -> Reply
+        requires session { IsTrue (is_session session.0) }
+        requires fits { IsTrue (change_fits (Put table key.now value.now)) }
+        ensures ring { self.new.ring ≡ self.old.ring }
+        ensures moves { (ws : List World) → IsAt self.old ws → Moves ws (Some (PutRow session table key.now value.now)) (plain result) (IsAt self.new) }
+        ensures inside { IsInside result }
+    {
+        let done = self
+            .transactions
+            .put(&mut self.rows, true, session, table, key, value);
+        put_answer(done)
+    }
+
+    /// Deletes a row that the session sees, in its transaction alone.
+    pub fn del(&mut self, session: Session, table: Table, key: &Key) -> Reply
+        requires session { IsTrue (is_session session.0) }
+        requires fits { IsTrue (change_fits (Del table key.now)) }
+        ensures ring { self.new.ring ≡ self.old.ring }
+        ensures moves { (ws : List World) → IsAt self.old ws → Moves ws (Some (DelRow session table key.now)) (plain result) (IsAt self.new) }
+        ensures inside { IsInside result }
+    {
+        let found = self
+            .transactions
+            .del(&mut self.rows, true, session, table, key);
+        del_answer(found)
+    }
+
+    /// Locks a table for a scan. Its rows are then asked for one at a time.
+    pub fn scan(&mut self, session: Session, table: Table) -> Reply
+        requires session { IsTrue (is_session session.0) }
+        ensures ring { self.new.ring ≡ self.old.ring }
+        ensures moves { (ws : List World) → IsAt self.old ws
+            → Moves ws (Some (ScanTable session table)) (scan_answer (seen_rows self.new.rows.rows self.new.transactions session.0) table result) (IsAt self.new) }
+        ensures keyed { (ws : List World) → IsAt self.old ws → HasKeys (seen_rows self.new.rows.rows self.new.transactions session.0) }
+        ensures few { length (rows_of (seen_rows self.new.rows.rows self.new.transactions session.0) table.0) < 2 ^ 64 }
+        ensures inside { IsInside result }
+    {
+        // A scan has no more rows than these, so they can be counted.
+        let _most = self.rows.len() + self.transactions.changes(session).len();
+        scan_opened(self.transactions.scan(session, table))
+    }
+
+    /// The first row of a table behind a key, as the session sees it; false where there is none.
+    pub fn scan_next(
+        &self,
+        session: Session,
+        table: Table,
+        after: &KeyBuf,
+        key: &mut KeyBuf,
+        value: &mut ValueBuf,
+    ) -> bool
+        requires session { IsTrue (is_session session.0) }
+        ensures { IsNextRow result (next_row (seen_rows self.now.rows.rows self.now.transactions session.0) table.0 after.now.items) key.new.items value.new.items }
+    {
+        next_seen(
+            &self.rows,
+            self.transactions.changes(session),
+            table,
+            after,
+            key,
+            value,
+        )
+    }
+
+    /// Gives up the session's transaction.
+    pub fn rollback(&mut self, session: Session) -> Reply
+        requires session { IsTrue (is_session session.0) }
+        ensures ring { self.new.ring ≡ self.old.ring }
+        ensures moves { (ws : List World) → IsAt self.old ws → Moves ws (Some (RollbackWork session)) (plain result) (IsAt self.new) }
+        ensures inside { IsInside result }
+    {
+        self.transactions.rollback(session);
+        Reply::RolledBack
+    }
+
+    /// Commits the session's transaction. Where a device fails, only reading the log again shows
+    /// whether the commit is kept.
+    pub fn commit<H: Host>(&mut self, host: &mut H, session: Session) -> Result<Reply, Failed>
+        requires session { IsTrue (is_session session.0) }
         requires log { IsWholeLog self.old.ring }
         requires ring { H.tells → HasRing self.old.ring.size (H.disk host.old).seen }
         ensures log { IsWholeLog self.new.ring }
@@ -94,22 +156,26 @@ impl Database {
         ensures ring { H.tells → HasRing self.old.ring.size (H.disk host.new).seen }
         ensures keeps { H.tells → Keeps (H.disk host.old) (H.disk host.new) }
         ensures does { H.tells → (ws : List World) → IsAt self.old ws → Stand no_pages Stands (H.disk host.old) ws
-            → CommitDoes (H.disk host.old) (H.disk host.new) ws self.new result }
+            → CommitDoes (H.disk host.old) (H.disk host.new) ws session self.new result }
         ensures cause { HasCause (H.faults host.old) (H.faults host.new) result }
         ensures inside { IfOk result IsInside }
         ensures say_faults { H.say_faults host.new ≡ H.say_faults host.old }
     {
-        if self.transaction.is_empty() {
+        if self.transactions.changed(session) == 0 {
+            self.transactions.ended(session);
             return Ok(Reply::NothingToCommit);
         }
-        let Ok(()) = self.rows.reserve(self.transaction.changes().len()) else {
+        let Ok(()) = self
+            .rows
+            .reserve(self.transactions.changed(session) as usize)
+        else {
             return Ok(Reply::Refused(Refusal::MemoryWanting));
         };
         match log_changes(
             host,
             &mut self.ring,
             &mut self.group,
-            self.transaction.changes(),
+            self.transactions.changes(session),
         ) {
             Ok(()) => {}
             Err(RingFault::Failed) => return Err(Failed),
@@ -117,8 +183,21 @@ impl Database {
             // A restart needs no more of the log than what is not saved.
             Err(RingFault::Pinned) => return Ok(Reply::Refused(log_full(&self.ring))),
         }
-        self.transaction.settle(alloc, &mut self.rows);
+        self.settle(session);
         Ok(Reply::Committed(self.ring.last_commit))
+    }
+
+    // Makes the session's changes in the rows, and ends its transaction. It takes no memory.
+    fn settle(&mut self, session: Session)
+        requires session { IsTrue (is_session session.0) }
+        requires room { len (changes_of self.old.transactions session.0) ≤ self.old.rows.spare }
+        ensures rows { self.new.rows.rows ≡ with_changes (values (changes_of self.old.transactions session.0)) self.old.rows.rows }
+        ensures ended { Ended self.old.transactions self.new.transactions session.0 }
+        ensures ring { self.new.ring ≡ self.old.ring }
+    {
+        let changes = self.transactions.take_changes(session);
+        self.rows.apply_all(changes);
+        self.transactions.ended(session);
     }
 }
 
@@ -159,12 +238,4 @@ fn log_full(ring: &Ring) -> Refusal
         unsaved: ring.end_position - ring.saved_position,
         size: ring.size,
     }
-}
-
-// The bytes that a group may have at most in a log of this size.
-fn most_bytes(size: u64) -> u64
-    requires { 0 < size }
-    ensures { result ≡ min 1048576 (size - 1) }
-{
-    LONGEST_GROUP.min(size - 1)
 }

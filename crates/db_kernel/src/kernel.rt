@@ -1,26 +1,27 @@
 //! The kernel takes the lines of a script one by one.
-ghost use Rattle.std.specs.Prelude.{◌≡◌, ℕ, ◌≤◌, List, IsTrue, Some, None};
+ghost use Rattle.std.specs.Prelude.{◌≡◌, ℕ, ◌≤◌, ◌<◌, ◌^◌, List, IsTrue, IsSome, Some, None, length};
 ghost use Rattle.mdb_model.specs.Answers.{plain};
 ghost use Rattle.mdb_model.specs.Causes.{Rose};
-ghost use Rattle.mdb_model.specs.declared.script.Command.TheVariants.{GetRow, PutRow, CommitWork, DbOnline, Kill};
+ghost use Rattle.mdb_model.specs.declared.change.Change.TheVariants.{Put, Del};
+ghost use Rattle.mdb_model.specs.declared.script.Command.TheVariants.{GetRow, PutRow, DelRow, ScanTable, CommitWork, RollbackWork, DbOnline, Kill};
 ghost use Rattle.mdb_model.specs.Images.{Image};
-ghost use Rattle.mdb_model.specs.Script.{is_in_range};
+ghost use Rattle.mdb_model.specs.Script.{is_in_range, is_session, is_table, is_key};
 ghost use Rattle.mdb_model.specs.Worlds.{World};
 ghost use Rattle.mdb_host.specs.Disk.{Disk, Keeps};
 ghost use Rattle.mdb_bytes.specs.Groups.{change_fits};
 ghost use Rattle.mdb_bytes.specs.LogAlone.{Stands};
-ghost use Rattle.mdb_model.specs.declared.change.Change.TheVariants.{Put};
 ghost use Rattle.db_kernel.specs.Damages.{IsInside, RepliesDamage};
-ghost use Rattle.db_kernel.specs.Kept.{Ready, Meets, Fits};
+ghost use Rattle.db_kernel.specs.Kept.{Ready, Meets, Fits, answer_of, scanned_rows, AreFew, AreKeyed, NextIs};
+ghost use Rattle.db_kernel.specs.Sessions.{scan_answer};
 ghost use Rattle.db_kernel.specs.Stretch.{Stand, Completes};
 ghost use Rattle.db_kernel.specs.Working.{Moves, no_pages};
 
 use crate::database::Database;
 use crate::opening::open_database;
 use mdb_host::Host;
-use mdb_model::bytes::{Key, Value};
+use mdb_model::bytes::{Key, KeyBuf, Value, ValueBuf};
 use mdb_model::name::{Session, State, Table};
-use mdb_model::script::{Command, Refusal, Reply};
+use mdb_model::script::{Command, Next, Refusal, Reply};
 use std::alloc::Global;
 
 /// A kernel: off, or with an open database.
@@ -41,7 +42,8 @@ impl Kernel {
         }
     }
 
-    /// Takes a line and answers it. Where a device fails in a commit, the kernel is off after it.
+    /// Takes a line and answers it. The rows of a scan are asked for by `scan_next` once it is
+    /// open. Where a device fails in a commit, the kernel is off after it.
     pub fn command<H: Host>(&mut self, host: &mut H, line: &Command) -> Reply
         requires range { IsTrue (is_in_range line.now) }
         requires ready { Ready self.old.database }
@@ -50,7 +52,9 @@ impl Kernel {
         ensures meets { H.tells → Meets self.new.database (H.disk host.new).seen }
         ensures keeps { H.tells → Keeps (H.disk host.old) (H.disk host.new) }
         ensures does { H.tells → (ws : List World) → Fits self.old.database ws → Stand no_pages Stands (H.disk host.old) ws
-            → Completes no_pages Stands (H.disk host.old) (H.disk host.new) ws (Some line.now) (plain result) (Fits self.new.database) }
+            → Completes no_pages Stands (H.disk host.old) (H.disk host.new) ws (Some line.now) (answer_of line.now self.new.database result) (Fits self.new.database) }
+        ensures few { AreFew line.now self.new.database }
+        ensures keyed { H.tells → (ws : List World) → Fits self.old.database ws → AreKeyed line.now self.new.database }
         ensures later { H.faults host.old ≤ H.faults host.new }
         ensures cause { result ≡ Reply.Refused Refusal.DeviceFailed → Rose (H.faults host.old) (H.faults host.new) }
         ensures damage { H.tells → RepliesDamage (H.disk host.old).seen result }
@@ -59,13 +63,13 @@ impl Kernel {
         match line {
             Command::GetRow(session, table, key) => self.get(*session, *table, key),
             Command::PutRow(session, table, key, value) => self.put(*session, *table, key, value),
+            Command::DelRow(session, table, key) => self.del(*session, *table, key),
+            Command::ScanTable(session, table) => self.scan(*session, *table),
             Command::CommitWork(session) => self.commit(host, *session),
+            Command::RollbackWork(session) => self.rollback(*session),
             Command::DbOnline => self.go_online(host),
             Command::Kill => self.kill(),
-            Command::DelRow(_, _, _)
-            | Command::ScanTable(_, _)
-            | Command::RollbackWork(_)
-            | Command::DbAdmin
+            Command::DbAdmin
             | Command::DbOffline
             | Command::DbState
             | Command::MakeSavepoint
@@ -86,21 +90,46 @@ impl Kernel {
         }
     }
 
+    /// The next row of a scan that is open: the first one behind a key, which is empty at its start.
+    pub fn scan_next(
+        &self,
+        session: Session,
+        table: Table,
+        after: &KeyBuf,
+        key: &mut KeyBuf,
+        value: &mut ValueBuf,
+    ) -> Next
+        requires session { IsTrue (is_session session.0) }
+        ensures { NextIs self.now.database session table after.now.items key.new.items value.new.items result }
+    {
+        let Some(database) = &self.database else {
+            return Next::Fault(Reply::Refused(Refusal::WrongState(State::Offline)));
+        };
+        if database.scan_next(session, table, after, key, value) {
+            Next::Row
+        } else {
+            Next::End
+        }
+    }
+
     fn get(&mut self, session: Session, table: Table, key: &Key) -> Reply
-        ensures same { self.new.database ≡ self.old.database }
-        ensures moves { (ws : List World) → Fits self.old.database ws → Moves ws (Some (GetRow session table key.now)) (plain result) (Fits self.old.database) }
+        requires session { IsTrue (is_session session.0) }
+        requires table { IsTrue (is_table table.0) }
+        requires key { IsTrue (is_key key.now) }
+        requires ready { Ready self.old.database }
+        ensures ready { Ready self.new.database }
+        ensures meets { (image : Image) → Meets self.old.database image → Meets self.new.database image }
+        ensures moves { (ws : List World) → Fits self.old.database ws → Moves ws (Some (GetRow session table key.now)) (plain result) (Fits self.new.database) }
         ensures inside { IsInside result }
     {
-        if session.0 != 1 {
-            return Reply::Refused(Refusal::Syntax);
-        }
-        match &self.database {
+        match &mut self.database {
             None => Reply::Refused(Refusal::WrongState(State::Offline)),
-            Some(database) => database.get(table, key),
+            Some(database) => database.get(session, table, key),
         }
     }
 
     fn put(&mut self, session: Session, table: Table, key: &Key, value: &Value) -> Reply
+        requires session { IsTrue (is_session session.0) }
         requires fits { IsTrue (change_fits (Put table key.now value.now)) }
         requires ready { Ready self.old.database }
         ensures ready { Ready self.new.database }
@@ -108,12 +137,55 @@ impl Kernel {
         ensures moves { (ws : List World) → Fits self.old.database ws → Moves ws (Some (PutRow session table key.now value.now)) (plain result) (Fits self.new.database) }
         ensures inside { IsInside result }
     {
-        if session.0 != 1 {
-            return Reply::Refused(Refusal::Syntax);
-        }
         match &mut self.database {
             None => Reply::Refused(Refusal::WrongState(State::Offline)),
-            Some(database) => database.put(self.alloc, table, key, value),
+            Some(database) => database.put(session, table, key, value),
+        }
+    }
+
+    fn del(&mut self, session: Session, table: Table, key: &Key) -> Reply
+        requires session { IsTrue (is_session session.0) }
+        requires fits { IsTrue (change_fits (Del table key.now)) }
+        requires ready { Ready self.old.database }
+        ensures ready { Ready self.new.database }
+        ensures meets { (image : Image) → Meets self.old.database image → Meets self.new.database image }
+        ensures moves { (ws : List World) → Fits self.old.database ws → Moves ws (Some (DelRow session table key.now)) (plain result) (Fits self.new.database) }
+        ensures inside { IsInside result }
+    {
+        match &mut self.database {
+            None => Reply::Refused(Refusal::WrongState(State::Offline)),
+            Some(database) => database.del(session, table, key),
+        }
+    }
+
+    fn scan(&mut self, session: Session, table: Table) -> Reply
+        requires session { IsTrue (is_session session.0) }
+        requires ready { Ready self.old.database }
+        ensures ready { Ready self.new.database }
+        ensures meets { (image : Image) → Meets self.old.database image → Meets self.new.database image }
+        ensures moves { (ws : List World) → Fits self.old.database ws
+            → Moves ws (Some (ScanTable session table)) (scan_answer (scanned_rows self.new.database session) table result) (Fits self.new.database) }
+        ensures few { AreFew (ScanTable session table) self.new.database }
+        ensures keyed { (ws : List World) → Fits self.old.database ws → AreKeyed (ScanTable session table) self.new.database }
+        ensures inside { IsInside result }
+    {
+        match &mut self.database {
+            None => Reply::Refused(Refusal::WrongState(State::Offline)),
+            Some(database) => database.scan(session, table),
+        }
+    }
+
+    fn rollback(&mut self, session: Session) -> Reply
+        requires session { IsTrue (is_session session.0) }
+        requires ready { Ready self.old.database }
+        ensures ready { Ready self.new.database }
+        ensures meets { (image : Image) → Meets self.old.database image → Meets self.new.database image }
+        ensures moves { (ws : List World) → Fits self.old.database ws → Moves ws (Some (RollbackWork session)) (plain result) (Fits self.new.database) }
+        ensures inside { IsInside result }
+    {
+        match &mut self.database {
+            None => Reply::Refused(Refusal::WrongState(State::Offline)),
+            Some(database) => database.rollback(session),
         }
     }
 
@@ -127,6 +199,7 @@ impl Kernel {
     }
 
     fn commit<H: Host>(&mut self, host: &mut H, session: Session) -> Reply
+        requires session { IsTrue (is_session session.0) }
         requires ready { Ready self.old.database }
         requires meets { H.tells → Meets self.old.database (H.disk host.old).seen }
         ensures ready { Ready self.new.database }
@@ -139,13 +212,10 @@ impl Kernel {
         ensures damage { H.tells → RepliesDamage (H.disk host.old).seen result }
         ensures say_faults { H.say_faults host.new ≡ H.say_faults host.old }
     {
-        if session.0 != 1 {
-            return Reply::Refused(Refusal::Syntax);
-        }
         let Some(database) = &mut self.database else {
             return Reply::Refused(Refusal::WrongState(State::Offline));
         };
-        match database.commit(self.alloc, host) {
+        match database.commit(host, session) {
             Ok(reply) => reply,
             Err(_) => {
                 self.database = None;

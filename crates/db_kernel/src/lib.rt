@@ -3,7 +3,8 @@
 
 pub mod database;
 pub mod kernel;
-pub mod opening;
-pub mod redo;
+mod opening;
+mod redo;
+mod replies;
 pub mod rows;
-pub mod transaction;
+mod scan;

@@ -1,5 +1,5 @@
 //! Opening the database of a log.
-ghost use Rattle.std.specs.Prelude.{◌≡◌, ℕ, ◌+◌, ◌*◌, ◌≤◌, ◌<◌, List, Err, IfOk, IfErr};
+ghost use Rattle.std.specs.Prelude.{◌≡◌, ℕ, ◌+◌, ◌-◌, ◌*◌, ◌≤◌, ◌<◌, List, Err, IfOk, IfErr, min};
 ghost use Rattle.mdb_model.specs.Causes.{Rose};
 ghost use Rattle.mdb_model.specs.declared.change.Commit.{Commit};
 ghost use Rattle.mdb_model.specs.declared.fault.Device.TheVariants.{Log};
@@ -14,7 +14,6 @@ ghost use Rattle.db_kernel.specs.Kept.{IsWholeLog, IsFirstStart, StartIs, RingIs
 
 use crate::database::Database;
 use crate::redo::redo;
-use crate::transaction::OpenTransaction;
 use mdb_bytes::GroupBuf;
 use mdb_host::{Device, Host};
 use mdb_model::fault::{Damage, OpenFault, Rule};
@@ -22,6 +21,7 @@ use mdb_model::name::Name;
 use mdb_model::script::Refusal;
 use redo_ring::{LogStart, Ring};
 use std::alloc::Global;
+use transactions::Transactions;
 
 // The log volume breaks a rule as a whole.
 fn damaged(rule: Rule) -> Refusal
@@ -105,6 +105,17 @@ fn open_ring<H: Host>(alloc: Global, host: &mut H) -> Result<Ring, Refusal>
     }
 }
 
+// The bytes that a group may have at most, whatever the log.
+const LONGEST_GROUP: u64 = 1_048_576;
+
+// The bytes that a group may have at most in a log of this size.
+fn most_bytes(size: u64) -> u64
+    requires { 0 < size }
+    ensures { result ≡ min 1048576 (size - 1) }
+{
+    LONGEST_GROUP.min(size - 1)
+}
+
 /// Opens the database of the log: its rows are those that the log's groups leave.
 pub fn open_database<H: Host>(alloc: Global, host: &mut H) -> Result<Database, Refusal>
     ensures calm { H.tells → Goes (H.disk host.old) (H.disk host.new) Agree }
@@ -129,7 +140,7 @@ pub fn open_database<H: Host>(alloc: Global, host: &mut H) -> Result<Database, R
     match redo(alloc, host, &ring, &mut group) {
         Ok(rows) => Ok(Database {
             rows,
-            transaction: OpenTransaction::new(alloc),
+            transactions: Transactions::new(alloc, most_bytes(ring.size)),
             ring,
             group,
         }),

@@ -6,7 +6,7 @@ use Rattle.mdb_model.specs.declared.script.Command.{Command}
 use Rattle.mdb_model.specs.declared.script.Command.TheVariants.{GetRow, PutRow, DelRow, ScanTable, CommitWork, RollbackWork, DbAdmin, DbOnline, DbOffline, DbState, Kill, MakeSavepoint, TaskSavepoint, TaskBackup, TurnSavepoint, TurnBackup, MediumPut, MediumDelete, MediumList, BackupStart, Recover, SnapshotCreate, SnapshotDrop, SnapshotRevert, Info, CheckData}
 use Rattle.mdb_model.specs.declared.script.Refusal.TheVariants.{Syntax, MemoryWanting}
 use Rattle.mdb_model.specs.Answers.{refused}
-use Rattle.mdb_model.specs.Runs.{Line, Step, Stepped, Starved, may_want_memory}
+use Rattle.mdb_model.specs.Runs.{Step, Stepped, Starved, may_want_memory}
 use Rattle.mdb_model.specs.Worlds.{World}
 use Rattle.mdb_bytes.specs.LogAlone.{Stands}
 use Rattle.dbm_script.specs.Reading.{takes_bytes}

@@ -1,5 +1,8 @@
+pub mod Speaking
+pub mod ScanTexts
+pub mod Outcomes
 pub mod Join
-pub mod Saying
+pub mod Takings
 pub mod Turns
 pub mod Progressing
 pub mod Answering

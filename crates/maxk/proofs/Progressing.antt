@@ -1,24 +1,25 @@
 -- The loop over the lines of a script.
-use Rattle.std.proofs.Common.{◌≡◌, refl, sym, subst, ap, ◌∙◌, ℕ, ◌+◌, ◌-◌, ◌^◌, ◌<◌, ◌≤◌, min, max, Bool, true, false, not, List, [], ◌∷◌, ◌++◌, Option, Some, None, Ok, All, length, take, map, filter, arith, append_assoc}
-use Rattle.std.specs.List.{AllZip, concat}
+use Rattle.std.proofs.Common.{◌≡◌, refl, sym, subst, ap, ◌∙◌, ℕ, ◌+◌, ◌<◌, ◌≤◌, Bool, true, false, not, List, [], ◌∷◌, ◌++◌, Option, Some, Ok, length, map, filter, arith, append_assoc}
+use Rattle.std.specs.List.{AllZip}
 use Rattle.std.specs.Str.Lines.{lines}
-use Rattle.std.proofs.lemmas.List.{append-nil, length-append}
-use Rattle.mdb_host.specs.Disk.{Disk, Keeps}
+use Rattle.std.proofs.lemmas.List.{length-append}
+use Rattle.mdb_host.specs.Disk.{Disk}
 use Rattle.mdb_model.specs.declared.script.Command.{Command}
 use Rattle.mdb_model.specs.declared.status.Status.TheVariants.{Done, ScriptFault, SayFault, LinesEnd, Memory}
 use Rattle.mdb_model.specs.Agreement.{Ages}
-use Rattle.mdb_model.specs.Headline.{CanStart, LinesAreRead, RepliesAreSaid, AreRead, lines_of, texts_of, ended_part, lines_before_limit}
+use Rattle.mdb_model.specs.Headline.{AreRead, lines_of, ended_part, lines_before_limit}
 use Rattle.mdb_model.specs.Images.{Image}
 use Rattle.mdb_model.specs.Pages.{PageMap}
-use Rattle.mdb_model.specs.Runs.{Line, TakenLine, last_worlds}
+use Rattle.mdb_model.specs.Runs.{Line, TakenLine, Run, last_worlds}
+use Rattle.mdb_model.specs.Serial.{IsSerial}
 use Rattle.mdb_model.specs.Script.{Reads, is_skipped, line_weight, script_lines, most_lines}
-use Rattle.mdb_model.specs.Worlds.{World, off}
+use Rattle.mdb_model.specs.Worlds.{World}
 use Rattle.mdb_bytes.specs.LogAlone.{Stands}
 use Rattle.db_kernel.specs.declared.database.Database.{Database}
-use Rattle.db_kernel.specs.Kept.{AreOff, Fits}
+use Rattle.db_kernel.specs.Kept.{Fits}
 use Rattle.db_kernel.specs.Stretch.{Stand}
 use Rattle.db_kernel.specs.Working.{no_pages}
-use Rattle.maxk.specs.Along.{Taken, TakenWhole, Served}
+use Rattle.maxk.specs.Along.{Taken, TakenWhole}
 use Rattle.maxk.specs.declared.lines.LineKind.{LineKind}
 use Rattle.maxk.specs.declared.lines.LineKind.TheVariants.{Text, TooLong, End}
 use Rattle.maxk.specs.Progress.{Turned, IsLineText, is_end, weight_in, Progress, Promised}
@@ -145,7 +146,9 @@ finds_line (TooLong weight) reader given left done end found = record {
 
 -- How the call ends
 
-module _ (pages_in : Image → PageMap) (savepoint_in commit_in : Image → ℕ) (past_end : Command → Image → Bool) (from : List (World × Ages)) (d0 d1 : Disk) (f0 f1 : ℕ) (bytes : List ℕ) (database : Option Database) (reader : Reading) (told : Option (List ℕ)) (count : ℕ)
+module _ (pages_in : Image → PageMap) (savepoint_in commit_in : Image → ℕ) (past_end : Command → Image → Bool) (from : List (World × Ages))
+    (serial_of : (run : List TakenLine) → Run no_pages (map (λ (e : World × Ages). e.0) from) run → IsSerial run)
+    (d0 d1 : Disk) (f0 f1 : ℕ) (bytes : List ℕ) (database : Option Database) (reader : Reading) (told : Option (List ℕ)) (count : ℕ)
     (p : Progress d0 d1 f0 f1 (map (λ (e : World × Ages). e.0) from) bytes database reader told count)
     (more rest : List ℕ) (split : p.left ≡ more ++ rest) (told2 : Option (List ℕ)) (is_left : told2 ≡ Some rest) where
   all_now : (p.given ++ more) ++ rest ≡ bytes
@@ -162,7 +165,7 @@ module _ (pages_in : Image → PageMap) (savepoint_in commit_in : Image → ℕ)
     left = rest;
     all = all_now;
     is_left = is_left;
-    promise = promise_whole no_pages Stands pages_in savepoint_in commit_in past_end d0 d1 f0 f1 from Done bytes (p.given ++ more) rest p.lines (Fits database) (λ before said run is. is)
+    promise = promise_whole no_pages Stands pages_in savepoint_in commit_in past_end d0 d1 f0 f1 from serial_of Done bytes (p.given ++ more) rest p.lines (Fits database) (λ before said run is. is)
         (λ run lines_are. (read_of (script_lines bytes) run (script_at_end bytes (p.given ++ more) rest p.done all_now none found) lines_are, none)) p.served;
   }
 
@@ -173,7 +176,7 @@ module _ (pages_in : Image → PageMap) (savepoint_in commit_in : Image → ℕ)
     left = rest;
     all = all_now;
     is_left = is_left;
-    promise = promise_whole no_pages Stands pages_in savepoint_in commit_in past_end d0 d1 f0 f1 from ScriptFault bytes (p.given ++ more) rest p.lines (Fits database) (λ before said run is. is)
+    promise = promise_whole no_pages Stands pages_in savepoint_in commit_in past_end d0 d1 f0 f1 from serial_of ScriptFault bytes (p.given ++ more) rest p.lines (Fits database) (λ before said run is. is)
         (λ run lines_are. read_of (script_lines (ended_part (p.given ++ more))) run (script_at_failure (p.given ++ more) p.done found) lines_are) p.served;
   }
 
@@ -189,7 +192,7 @@ module _ (pages_in : Image → PageMap) (savepoint_in commit_in : Image → ℕ)
         left = rest;
         all = all_now;
         is_left = is_left;
-        promise = promise_whole no_pages Stands pages_in savepoint_in commit_in past_end d0 d1 f0 f1 from LinesEnd bytes (p.given ++ more) rest p.lines (Fits database) (λ before said run is. is)
+        promise = promise_whole no_pages Stands pages_in savepoint_in commit_in past_end d0 d1 f0 f1 from serial_of LinesEnd bytes (p.given ++ more) rest p.lines (Fits database) (λ before said run is. is)
             (λ run lines_are. (
               read_of (filter (λ line. not (is_skipped line)) (lines_before_limit bytes)) run (limit_answered bytes p.done text others is under over) lines_are,
               limit_shorter bytes p.done text others is under over,
@@ -209,7 +212,7 @@ module _ (pages_in : Image → PageMap) (savepoint_in commit_in : Image → ℕ)
         left = rest;
         all = all_now;
         is_left = is_left;
-        promise = promise_cut no_pages Stands pages_in savepoint_in commit_in past_end d0 dn f0 fn from d1 f1 f01 f1n p.lines line (Fits database) p.served next bytes (p.given ++ more) rest
+        promise = promise_cut no_pages Stands pages_in savepoint_in commit_in past_end d0 dn f0 fn from serial_of d1 f1 f01 f1n p.lines line (Fits database) p.served next bytes (p.given ++ more) rest
             (λ run lines_are. (
               AreRead-begins bytes (p.done ++ text ∷ []) others run is (subst (λ (ls : List Line). AllZip Reads (kept (p.done ++ text ∷ [])) ls) (sym lines_are) both),
               some_line run p.lines line lines_are,
@@ -221,14 +224,14 @@ module _ (pages_in : Image → PageMap) (savepoint_in commit_in : Image → ℕ)
       some_line (e ∷ run) ls l is = omega arith
 
 -- nothing was read
-pub ends_memory : (pages_in : Image → PageMap) (savepoint_in commit_in : Image → ℕ) (past_end : Command → Image → Bool) (from : List (World × Ages)) (d : Disk) (f : ℕ) (bytes : List ℕ)
+pub ends_memory : (pages_in : Image → PageMap) (savepoint_in commit_in : Image → ℕ) (past_end : Command → Image → Bool) (from : List (World × Ages)) (serial_of : (run : List TakenLine) → Run no_pages (map (λ (e : World × Ages). e.0) from) run → IsSerial run) (d : Disk) (f : ℕ) (bytes : List ℕ)
     → Stand no_pages Stands d (map (λ (e : World × Ages). e.0) from) → Promised pages_in savepoint_in commit_in past_end d d f f from Memory bytes (Some bytes)
-ends_memory pages_in savepoint_in commit_in past_end from d f bytes stand = record {
+ends_memory pages_in savepoint_in commit_in past_end from serial_of d f bytes stand = record {
   given = [];
   left = bytes;
   all = refl;
   is_left = refl;
-  promise = promise_whole no_pages Stands pages_in savepoint_in commit_in past_end d d f f from Memory bytes [] bytes [] (λ vs. Unit {0}) (λ before said run is. is) (λ run lines_are. no_run run lines_are)
+  promise = promise_whole no_pages Stands pages_in savepoint_in commit_in past_end d d f f from serial_of Memory bytes [] bytes [] (λ vs. Unit {0}) (λ before said run is. is) (λ run lines_are. no_run run lines_are)
       (served_none no_pages Stands d f (map (λ (e : World × Ages). e.0) from) (λ vs. Unit {0}) tt stand);
 }
   where

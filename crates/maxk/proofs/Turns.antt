@@ -1,8 +1,8 @@
 -- The turns of the loop over the lines, and the whole call.
-use Rattle.std.proofs.Common.{◌≡◌, refl, sym, subst, ap, ◌∙◌, ℕ, zero, suc, ◌+◌, ◌-◌, ◌^◌, ◌<◌, ◌≤◌, min, Bool, List, [], ◌∷◌, ◌++◌, Some, None, Contains, All, length, take, map, arith, append_assoc}
+use Rattle.std.proofs.Common.{◌≡◌, refl, sym, subst, ap, ◌∙◌, ℕ, zero, suc, ◌+◌, ◌-◌, ◌≤◌, Bool, List, [], ◌∷◌, ◌++◌, None, Contains, All, length, take, map, arith, append_assoc}
 use Rattle.std.specs.List.{concat}
 use Rattle.std.specs.FinMap.{empty}
-use Rattle.std.proofs.lemmas.List.{append-nil, length-append, length-map}
+use Rattle.std.proofs.lemmas.List.{append-nil, length-append}
 use Rattle.std.proofs.lemmas.List.Elements.{All-contains, All-map, All-weaker, All-append, All-cons, All-nil}
 use Rattle.mdb_host.specs.Disk.{Disk, Keeps}
 use Rattle.mdb_host.proofs.Moments.{keeps_all}
@@ -15,9 +15,11 @@ use Rattle.mdb_model.specs.Images.{Image}
 use Rattle.mdb_model.specs.Pages.{PageReading, PageMap}
 use Rattle.mdb_model.specs.Worlds.{World, off}
 use Rattle.mdb_model.specs.Text.{text_of}
-use Rattle.mdb_model.specs.Runs.{Line, TakenLine, last_worlds}
+use Rattle.mdb_model.specs.Runs.{Line, TakenLine, Run, last_worlds}
+use Rattle.mdb_model.specs.Serial.{IsSerial}
+use Rattle.mdb_model.proofs.SerialLaw.{serial}
 use Rattle.mdb_model.specs.Agreement.{Ages, IsSound, Agrees}
-use Rattle.mdb_model.specs.Headline.{IsPrefix, CrashesStand, CanStart, LinesAreRead, RepliesAreSaid, KeepsRun, texts_of, lines_of}
+use Rattle.mdb_model.specs.Headline.{IsPrefix, CrashesStand, CanStart, LinesAreRead, RepliesAreSaid, texts_of, lines_of}
 use Rattle.db_kernel.specs.Stretch.{Stand}
 use Rattle.maxk.specs.Along.{Passes, Taken, TakenWhole, Served, HasDeviceCause, Kept}
 use Rattle.maxk.proofs.Join.{join, join_said, begins, said_all, said_then, lines-append, last-append}
@@ -77,7 +79,8 @@ module _ (reading : PageReading) (stands : Image → World → Type 0) where
 
   -- The whole call
 
-  module _ (pages_in : Image → PageMap) (savepoint_in commit_in : Image → ℕ) (past_end : Command → Image → Bool) (d0 dn : Disk) (f0 fn : ℕ) (old : List (World × Ages)) where
+  module _ (pages_in : Image → PageMap) (savepoint_in commit_in : Image → ℕ) (past_end : Command → Image → Bool) (d0 dn : Disk) (f0 fn : ℕ) (old : List (World × Ages))
+      (serial_of : (run : List TakenLine) → Run reading (map (λ (e : World × Ages). e.0) old) run → IsSerial run) where
     abbrev pub worlds : List World
     worlds = map (λ (e : World × Ages). e.0) old
 
@@ -97,6 +100,7 @@ module _ (reading : PageReading) (stands : Image → World → Type 0) where
         script = read_so served.run served.lines_are;
         crashes = crashes_of served.run served.passes;
       };
+      serial = serial_of served.run served.passes.follows;
       device = served.device;
     }
 
@@ -135,6 +139,7 @@ module _ (reading : PageReading) (stands : Image → World → Type 0) where
           script = read_so (so_far.run ++ next.entry ∷ []) (lines-append so_far.run (next.entry ∷ []) ∙ (λ k. so_far.lines_are k ++ next.is k ∷ []));
           crashes = crashes_of (so_far.run ++ next.entry ∷ []) both;
         };
+        serial = serial_of (so_far.run ++ next.entry ∷ []) both.follows;
         device = causes_push f0 f1 fn so_far.run next.entry f01 f1n so_far.device next.device;
       }
 
@@ -162,3 +167,9 @@ module _ (reading : PageReading) (stands : Image → World → Type 0) where
 
     pub start_rest : All (λ w. off w ≡ w) (map (λ e. e.0) old)
     start_rest = All-map (λ w. off w ≡ w) (λ (e : World × Ages). e.0) old (All-weaker CanBe (λ e. off e.0 ≡ e.0) at_rest old can.worlds)
+
+    -- the worlds are sound, so each run from them is serial
+    pub start_serial : (run : List TakenLine) → Run reading (map (λ (e : World × Ages). e.0) old) run → IsSerial run
+    start_serial run goes =
+        serial reading (map (λ (e : World × Ages). e.0) old) run goes
+        (All-map (λ w. IsSound reading w × (w.state ≡ Offline)) (λ (e : World × Ages). e.0) old (All-weaker CanBe (λ e. IsSound reading e.0 × (e.0.state ≡ Offline)) (λ e is. (is.0, is.1)) old can.worlds))

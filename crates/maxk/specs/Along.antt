@@ -13,6 +13,7 @@ use Rattle.mdb_model.specs.Images.{Image}
 use Rattle.mdb_model.specs.Pages.{PageMap, PageReading}
 use Rattle.mdb_model.specs.Worlds.{World}
 use Rattle.mdb_model.specs.Runs.{Line, TakenLine, Run, last_worlds}
+use Rattle.mdb_model.specs.Serial.{IsSerial}
 use Rattle.mdb_model.specs.Text.{text_of}
 use Rattle.mdb_model.specs.Headline.{IsPrefix, HasSaid, IsPossible, KeepsRun, texts_of, lines_of}
 use Rattle.mdb_model.specs.Agreement.{Ages}
@@ -64,8 +65,10 @@ module _ (reading : PageReading) (stands : Image → World → Type 0) where
     pub fit : fits (last_worlds reading ws run)
     pub stand : Stand reading stands new (last_worlds reading ws run)
 
-  -- what a call keeps: its run, with the cause of each reply that names a failed device
+  -- what a call keeps: its run, in which each transaction was answered as with nobody else, with the cause of each
+  -- reply that names a failed device
   module _ (pages_in : Image → PageMap) (savepoint_in commit_in : Image → ℕ) (past_end : Command → Image → Bool) where
     pub record Kept (old new : Disk) (before now : ℕ) (from : List (World × Ages)) (status : Status) (bytes given left : List ℕ) : Type 0 where
       pub kept : KeepsRun reading new.said new.may_leave stands pages_in savepoint_in commit_in past_end status old.now new.now bytes given left from
+      pub serial : IsSerial kept.run
       pub device : All (HasDeviceCause before now) kept.run

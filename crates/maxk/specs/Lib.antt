@@ -1,3 +1,4 @@
 pub mod Reading
 pub mod Along
 pub mod Progress
+pub mod Speaking

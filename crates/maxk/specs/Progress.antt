@@ -1,18 +1,16 @@
 -- How far the run of a script is.
---     Answers      what the kernel made of a line
---     Turned      and its reply was said, or not to its end
+--     DoesLine      a line was done, and what answers it was said, or not to its end
+--     Turned      the same of the text of a line, which may be skipped
 --     IsLineText      a line that the reader found
 --     is_end, weight_in      whether no line is left; what the loop counts a line as
 --     Progress      lines of the script are answered, and others are left
 --     Promised      what a call keeps of the script of its source
-use Rattle.std.specs.Prelude.{◌≡◌, ℕ, ◌<◌, ◌++◌, Bool, true, false, List, Option, Some, None, Result, Ok, Err, length, min, max}
+use Rattle.std.specs.Prelude.{◌≡◌, ℕ, ◌<◌, ◌++◌, Bool, true, false, List, Option, Some, Result, Ok, Err, length, min, max}
 use Rattle.std.specs.List.{AllZip}
 use Rattle.mdb_model.specs.declared.fault.Failed.{Failed as Fault}
 use Rattle.mdb_model.specs.declared.script.Command.{Command}
-use Rattle.mdb_model.specs.declared.script.Reply.{Reply}
 use Rattle.mdb_model.specs.declared.status.Status.{Status}
 use Rattle.mdb_model.specs.Agreement.{Ages}
-use Rattle.mdb_model.specs.Answers.{plain}
 use Rattle.mdb_model.specs.Images.{Image}
 use Rattle.mdb_model.specs.Pages.{PageMap}
 use Rattle.mdb_model.specs.Runs.{Line}
@@ -22,20 +20,18 @@ use Rattle.mdb_host.specs.Disk.{Disk}
 use Rattle.mdb_bytes.specs.LogAlone.{Stands}
 use Rattle.db_kernel.specs.declared.database.Database.{Database}
 use Rattle.db_kernel.specs.Kept.{Fits}
-use Rattle.db_kernel.specs.Stretch.{Completes}
 use Rattle.db_kernel.specs.Working.{no_pages}
 use Rattle.maxk.specs.declared.lines.LineKind.{LineKind}
 use Rattle.maxk.specs.declared.lines.LineKind.TheVariants.{Text, TooLong, End}
 use Rattle.maxk.specs.Along.{Taken, TakenWhole, Served, Kept}
 use Rattle.maxk.specs.Reading.{Reading, HasRead, kept, weight_of}
 
--- a line is skipped; or it reads as a line of the machine, which was done
-abbrev pub Answers : (old new : Disk) → List World → (text : List ℕ) → (after : Option Database) → Option Reply → Type 0
-Answers old new ws text after None = is_skipped text ≡ true
-Answers old new ws text after (Some reply) =
-    (is_skipped text ≡ false) × ((line : Line) × Reads text line × Completes no_pages Stands old new ws line (plain reply) (Fits after))
+-- a line was done, and what answers it is said, or not to its end
+abbrev pub DoesLine : (old new : Disk) → (before now : ℕ) → List World → Line → (after : Option Database) → Result (Unit {0}) Fault → Type 0
+DoesLine old new before now ws line after (Ok done) = TakenWhole no_pages Stands old new before now ws line (Fits after)
+DoesLine old new before now ws line after (Err fault) = Taken no_pages Stands old new before now ws line
 
--- the same with its reply: it is said, there is none, or it is not said to its end
+-- a line is skipped; or it reads as a line of the machine, which was done
 abbrev pub Turned : (old new : Disk) → (before now : ℕ) → List World → (text : List ℕ) → (after : Option Database) → Result Bool Fault → Type 0
 Turned old new before now ws text after (Ok true) =
     (is_skipped text ≡ false) × ((line : Line) × Reads text line × TakenWhole no_pages Stands old new before now ws line (Fits after))

@@ -3,6 +3,7 @@
 
 mod lines;
 mod run;
+mod saying;
 mod window;
 mod words;
 

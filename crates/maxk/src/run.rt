@@ -1,67 +1,76 @@
 //! The run of a script, line by line.
-ghost use Rattle.std.specs.Prelude.{◌≡◌, ℕ, ◌≤◌, ◌<◌, ◌++◌, List, Bool, length, OnOk, IfOk, Some, MatchOption, false};
+ghost use Rattle.std.specs.Prelude.{◌≡◌, ℕ, ◌≤◌, ◌<◌, List, Bool, length, IfOk, IsTrue, Some, false};
 ghost use Rattle.mdb_model.specs.Agreement.{Ages};
-ghost use Rattle.mdb_model.specs.Answers.{plain};
+ghost use Rattle.mdb_model.specs.Answers.{refused};
 ghost use Rattle.mdb_model.specs.Causes.{Rose, HasCause};
 ghost use Rattle.mdb_model.specs.declared.script.Command.{Command};
 ghost use Rattle.mdb_model.specs.Headline.{CanStart};
 ghost use Rattle.mdb_model.specs.Images.{Image};
 ghost use Rattle.mdb_model.specs.Pages.{PageMap};
-ghost use Rattle.mdb_model.specs.Text.{text_of};
+ghost use Rattle.mdb_model.specs.Runs.{Line};
+ghost use Rattle.mdb_model.specs.Script.{is_in_range};
 ghost use Rattle.mdb_model.specs.Worlds.{World};
-ghost use Rattle.mdb_host.specs.Disk.{Disk, Keeps, Says};
+ghost use Rattle.mdb_host.specs.Disk.{Disk, Keeps};
 ghost use Rattle.mdb_bytes.specs.LogAlone.{Stands};
 ghost use Rattle.db_kernel.specs.Kept.{Ready, Meets, Fits};
-ghost use Rattle.db_kernel.specs.Stretch.{Stand};
+ghost use Rattle.db_kernel.specs.Stretch.{Stand, Completes};
 ghost use Rattle.db_kernel.specs.Working.{no_pages};
-ghost use Rattle.maxk.specs.Progress.{Answers, Turned, IsLineText, is_end as no_line, weight_in, Promised};
+ghost use Rattle.maxk.specs.Progress.{DoesLine, Turned, IsLineText, is_end as no_line, weight_in, Promised};
 
 use crate::lines::{LineKind, LineReader};
+use crate::saying::{say_reply, say_scan};
 use db_kernel::kernel::Kernel;
-use dbm_script::{LineBuf, LineFault, parse_line, reply_text};
+use dbm_script::{LineFault, parse_line};
 use mdb_host::{Failed, Host, Source};
-use mdb_model::script::{Refusal, Reply};
+use mdb_model::script::{Command, Refusal, Reply};
 use mdb_model::status::Status;
 use std::alloc::Global;
 
 // How many lines a script may count as.
 const MOST_LINES: u64 = 16_777_216;
 
-// Takes a line of the script; none is answered to a line that is skipped.
-fn reply_to<H: Host>(alloc: Global, kernel: &mut Kernel, host: &mut H, line: &[u8]) -> Option<Reply>
+// Says all that answers a command.
+fn answer_command<H: Host>(
+    kernel: &mut Kernel,
+    host: &mut H,
+    command: &Command,
+) -> Result<(), Failed>
+    requires range { IsTrue (is_in_range command.now) }
     requires ready { Ready kernel.old.database }
     requires meets { H.tells → Meets kernel.old.database (H.disk host.old).seen }
     ensures ready { Ready kernel.new.database }
     ensures meets { H.tells → Meets kernel.new.database (H.disk host.new).seen }
     ensures keeps { H.tells → Keeps (H.disk host.old) (H.disk host.new) }
-    ensures still { MatchOption result ((host.new ≡ host.old) × (kernel.new ≡ kernel.old)) (λ reply. Unit {0}) }
-    ensures answers { H.tells → (ws : List World) → Fits kernel.old.database ws → Stand no_pages Stands (H.disk host.old) ws
-        → Answers (H.disk host.old) (H.disk host.new) ws line.now kernel.new.database result }
+    ensures does { H.tells → (ws : List World) → Fits kernel.old.database ws → Stand no_pages Stands (H.disk host.old) ws
+        → DoesLine (H.disk host.old) (H.disk host.new) (H.faults host.old) (H.faults host.new) ws (Some command.now) kernel.new.database result }
     ensures later { H.faults host.old ≤ H.faults host.new }
-    ensures cause { MatchOption result (Unit {0}) (λ reply. reply ≡ Reply.Refused Refusal.DeviceFailed → Rose (H.faults host.old) (H.faults host.new)) }
-    ensures say_faults { H.say_faults host.new ≡ H.say_faults host.old }
+    ensures say_cause { HasCause (H.say_faults host.old) (H.say_faults host.new) result }
 {
-    match parse_line(alloc, line) {
-        Ok(None) => None,
-        Ok(Some(command)) => Some(kernel.command(host, &command)),
-        Err(LineFault::Syntax) => Some(Reply::Refused(Refusal::Syntax)),
-        Err(LineFault::Memory) => Some(Reply::Refused(Refusal::MemoryWanting)),
+    let reply = kernel.command(host, command);
+    match command {
+        Command::ScanTable(session, table) => match &reply {
+            Reply::ScanOpen => say_scan(kernel, host, *session, *table),
+            _ => say_reply(host, &reply),
+        },
+        _ => say_reply(host, &reply),
     }
 }
 
-// Says a reply by one call.
-fn say_reply<H: Host>(host: &mut H, reply: &Reply) -> Result<(), Failed>
-    ensures says { H.tells → Says (H.disk host.old) (H.disk host.new) (text_of (plain reply.now)) }
-    ensures said { OnOk result (H.tells → (H.disk host.new).said (H.disk host.new).now ≡ (H.disk host.old).said (H.disk host.old).now ++ text_of (plain reply.now)) }
+// Says the reply to a line that the kernel does not take.
+fn refuse<H: Host>(kernel: &Kernel, host: &mut H, refusal: Refusal) -> Result<(), Failed>
+    requires meets { H.tells → Meets kernel.now.database (H.disk host.old).seen }
+    requires cause { refusal ≡ Refusal.DeviceFailed → ⊥ }
+    ensures meets { H.tells → Meets kernel.now.database (H.disk host.new).seen }
+    ensures keeps { H.tells → Keeps (H.disk host.old) (H.disk host.new) }
+    ensures does { H.tells → (ws : List World) (line : Line) → Completes no_pages Stands (H.disk host.old) (H.disk host.old) ws line (refused refusal) (Fits kernel.now.database)
+        → DoesLine (H.disk host.old) (H.disk host.new) (H.faults host.old) (H.faults host.new) ws line kernel.now.database result }
     ensures faults { H.faults host.new ≡ H.faults host.old }
     ensures say_cause { HasCause (H.say_faults host.old) (H.say_faults host.new) result }
 {
-    let mut text = LineBuf::new();
-    reply_text(0, reply, &mut text);
-    host.say(text.as_slice())
+    say_reply(host, &Reply::Refused(refusal))
 }
 
-// Takes a line and says the reply to it; false where it is skipped.
+// Takes a line and says what answers it; false where it is skipped.
 fn take_line<H: Host>(
     alloc: Global,
     kernel: &mut Kernel,
@@ -79,13 +88,13 @@ fn take_line<H: Host>(
     ensures later { H.faults host.old ≤ H.faults host.new }
     ensures say_cause { HasCause (H.say_faults host.old) (H.say_faults host.new) result }
 {
-    let Some(reply) = reply_to(alloc, kernel, host, line) else {
-        return Ok(false);
-    };
-    match say_reply(host, &reply) {
-        Ok(()) => Ok(true),
-        Err(_) => Err(Failed),
+    match parse_line(alloc, line) {
+        Ok(None) => return Ok(false),
+        Ok(Some(command)) => answer_command(kernel, host, &command)?,
+        Err(LineFault::Syntax) => refuse(kernel, host, Refusal::Syntax)?,
+        Err(LineFault::Memory) => refuse(kernel, host, Refusal::MemoryWanting)?,
     }
+    Ok(true)
 }
 
 // Says the reply to a line that is too long.
@@ -99,10 +108,8 @@ fn refuse_line<H: Host>(kernel: &Kernel, host: &mut H) -> Result<bool, Failed>
     ensures faults { H.faults host.new ≡ H.faults host.old }
     ensures say_cause { HasCause (H.say_faults host.old) (H.say_faults host.new) result }
 {
-    match say_reply(host, &Reply::Refused(Refusal::Syntax)) {
-        Ok(()) => Ok(true),
-        Err(_) => Err(Failed),
-    }
+    refuse(kernel, host, Refusal::Syntax)?;
+    Ok(true)
 }
 
 // Answers a line that the reader found; false where it is skipped.

@@ -13,3 +13,11 @@ pub mod GroupChecked
 pub mod Written
 pub mod EntryLaw
 pub mod LogFacts
+pub mod PartBytes
+pub mod SlotRecordLaws
+pub mod TableLaws
+pub mod ConverterLaws
+pub mod LogicalPageLaws
+pub mod MediumLaws
+pub mod NextRow
+pub mod Scanning

@@ -4,23 +4,32 @@
 --     LogLeft      the commits of a log that are still to be read
 --     IsRow      whether a row is found, and its value
 --     next_row, IsNextRow      the first row of a table behind a key
+--     setting_back, before_fits, before_of      a before image as the change that sets it back; the one of an entry
 --     noted, without_file, IsLastTaken      what is done to the undo file of a session
 --     IsNextGroup      the first group of a log
 --     HasPageCause      when a call on pages may fail
-use Rattle.std.specs.Prelude.{◌≡◌, ℕ, ◌+◌, ◌≤◌, List, [], ◌∷◌, ◌++◌, Bool, true, false, ◌&&◌, ◌==◌, Option, Some, None, Result, IfErr, unwrap_or, option_map, find}
+--     no_room, HasRoomCause      when a call may fail that makes room
+use Rattle.std.specs.Prelude.{◌≡◌, ◌⊎◌, ℕ, ◌+◌, ◌<◌, ◌≤◌, List, [], ◌∷◌, ◌++◌, Bool, true, false, ◌&&◌, ◌==◌, Option, Some, None, Result, IfErr, unwrap_or, option_map, find}
 use Rattle.std.specs.declared.cmp.Ordering.{Ordering}
 use Rattle.std.specs.declared.cmp.Ordering.TheVariants.{Less, Equal, Greater}
 use Rattle.std.specs.Ordering.{nat_cmp}
 use Rattle.std.specs.Cmp.Lexicographic.{slice_cmp}
 use Rattle.std.specs.FinMap.{FinMap, get, insert, remove, entries}
 use Rattle.mdb_model.specs.Causes.{Rose}
+use Rattle.mdb_model.specs.declared.change.Change.{Change}
+use Rattle.mdb_model.specs.declared.change.Change.TheVariants.{Put, Del}
 use Rattle.mdb_model.specs.declared.change.Commit.{Commit}
+use Rattle.mdb_model.specs.declared.fault.Damage.{Damage}
+use Rattle.mdb_model.specs.declared.fault.Device.TheVariants.{Data}
 use Rattle.mdb_model.specs.declared.fault.PageFault.{PageFault}
-use Rattle.mdb_model.specs.declared.fault.PageFault.TheVariants.{Failed}
+use Rattle.mdb_model.specs.declared.fault.PageFault.TheVariants.{Failed, Damaged}
+use Rattle.mdb_model.specs.declared.fault.Rule.TheVariants.{Room}
 use Rattle.mdb_model.specs.declared.name.Name.{Name}
+use Rattle.mdb_model.specs.declared.name.Table.{Table}
 use Rattle.mdb_model.specs.Tables.{Place, Tables}
 use Rattle.mdb_bytes.specs.Fields.{Spells}
-use Rattle.mdb_bytes.specs.Groups.{group_format}
+use Rattle.mdb_bytes.specs.Groups.{change_fits, group_format}
+use Rattle.mdb_bytes.specs.declared.held.UndoEntry.{UndoEntry}
 
 -- what stood at a place before a transaction changed it: the value of a row, or no row
 pub record Before : Type 0 where
@@ -70,6 +79,21 @@ IsNextRow false row key value = row ≡ None
 
 -- Undo files
 
+-- the change that makes the row what it was before
+abbrev pub setting_back : Before → Change
+setting_back before = at_place (record { 0 = before.place.0 }) before.place.1 before.value where
+  at_place : Table → List ℕ → Option (List ℕ) → Change
+  at_place table key (Some value) = Put table key value
+  at_place table key None = Del table key
+
+-- its table is one, its key is one, and its value is not too long
+abbrev pub before_fits : Before → Bool
+before_fits before = change_fits (setting_back before)
+
+-- the before image that an entry has
+abbrev pub before_of : UndoEntry → Before
+before_of entry = record { place = (entry.table.0, entry.key.items); value = option_map (λ value. value.items) entry.before }
+
 abbrev pub file_of : UndoFiles → ℕ → List Before
 file_of files session = unwrap_or (get files session) []
 
@@ -107,3 +131,13 @@ pub record HasPageCause {T : Type 0} (known : Type 0) (before now : ℕ) (result
   pub later : before ≤ now
   pub failed : IfErr result (λ fault. fault ≡ Failed → Rose before now)
   pub whole : known → IfErr result (λ fault. fault ≡ Failed)
+
+-- the first data volume, of which no page is at fault, is called damaged: its room is wanting
+abbrev pub no_room : Damage
+no_room = record { device = Data 1; page = 0; rule = Room }
+
+-- As with other calls on pages, but that room may be wanting: only where a savepoint leaves fewer than 64 spare pages.
+pub record HasRoomCause {T : Type 0} (known : Type 0) (left : ℕ) (before now : ℕ) (result : Result T PageFault) : Type 0 where
+  pub later : before ≤ now
+  pub failed : IfErr result (λ fault. fault ≡ Failed → Rose before now)
+  pub whole : known → IfErr result (λ fault. (fault ≡ Failed) ⊎ ((fault ≡ Damaged no_room) × (left < 64)))

@@ -8,4 +8,10 @@ pub mod ChangeHeads
 pub mod GroupHeads
 pub mod ChangeOrder
 pub mod ChangeEntries
+pub mod Parts
+pub mod SlotRecords
+pub mod ConverterPages
+pub mod LogicalPages
+pub mod MediumPages
 pub mod Held
+pub mod Paged

@@ -72,6 +72,16 @@ impl Key {
             Err(_) => Err(Memory),
         }
     }
+
+    /// The same bytes, in memory of the caller's.
+    pub fn to_buf(&self) -> KeyBuf
+        ensures { result ≡ record { items = self.now } }
+    {
+        let mut copied = KeyBuf::new();
+        // There is room for every key, so it succeeds.
+        let _ = copied.try_extend_from_slice(self.bytes.as_slice());
+        copied
+    }
 }
 
 impl Value {

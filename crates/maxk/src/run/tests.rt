@@ -32,7 +32,7 @@ fn push_put(script: &mut Vec<u8>, key: u8, count: usize) -> Result<(), Fail> {
 }
 
 // A script, and what it is answered on a log of four pages.
-const ROWS: [(&'static [u8], &'static [u8]); 9] = [
+const ROWS: [(&'static [u8], &'static [u8]); 14] = [
     (
         b"db_online\ns 1 put 1 'k' 'v'\ns 1 commit\nkill\ndb_online\ns 1 get 1 'k'\n",
         b"OK ONLINE 0\nOK PUT\nCOMMIT 1\nOK OFFLINE\nOK ONLINE 1\nVALUE 'v'\n",
@@ -53,12 +53,36 @@ const ROWS: [(&'static [u8], &'static [u8]); 9] = [
         b"ERR 1 SYNTAX\nERR 1 SYNTAX\nERR 1 SYNTAX\nERR 1 SYNTAX\n",
     ),
     (
-        b"db_online\ns 1 put 1 '' 'v'\ns 1 put 501 'k' 'v'\ns 2 put 1 'k' 'v'\ninfo\n",
-        b"OK ONLINE 0\nERR 1 SYNTAX\nERR 1 SYNTAX\nERR 1 SYNTAX\nERR 1 SYNTAX\n",
+        b"db_online\ns 1 put 1 '' 'v'\ns 1 put 501 'k' 'v'\ns 0 put 1 'k' 'v'\ns 65 put 1 'k' 'v'\ninfo\n",
+        b"OK ONLINE 0\nERR 1 SYNTAX\nERR 1 SYNTAX\nERR 1 SYNTAX\nERR 1 SYNTAX\nERR 1 SYNTAX\n",
     ),
     (
         b"db_online\ns 1 put 1 'b' ''\ns 1 put 1 'a' '1'\ns 1 put 1 'b' '2'\ns 1 commit\ns 1 get 1 'b'\ns 1 get 2 'b'\n",
         b"OK ONLINE 0\nOK PUT\nOK PUT\nOK PUT\nCOMMIT 1\nVALUE '2'\nNONE\n",
+    ),
+    // Locks: a row that another session changed, a table that another scans, a row that another reads.
+    (
+        b"db_online\ns 1 put 1 'k' 'a'\ns 2 get 1 'k'\ns 1 commit\ns 3 scan 1\ns 2 get 1 'k'\ns 1 put 1 'k' 'b'\ns 2 put 1 'k' 'b'\n",
+        b"OK ONLINE 0\nOK PUT\nERR 3 LOCKED 1\nCOMMIT 1\nROW 'k' 'a'\nOK SCAN 1\nVALUE 'a'\nERR 3 LOCKED 2\nERR 3 LOCKED 3\n",
+    ),
+    // Two sessions with open changes, a scan over what both committed, and a rollback.
+    (
+        b"db_online\ns 1 put 1 'o-0001' 'bolt 10'\ns 2 put 1 'o-0002' 'nut 50'\ns 1 commit\ns 2 commit\ns 1 scan 1\ns 1 commit\ns 2 del 1 'o-0001'\ns 2 rollback\ns 64 get 1 'o-0001'\n",
+        b"OK ONLINE 0\nOK PUT\nOK PUT\nCOMMIT 1\nCOMMIT 2\nROW 'o-0001' 'bolt 10'\nROW 'o-0002' 'nut 50'\nOK SCAN 2\nOK EMPTY\nOK DEL\nOK ROLLBACK\nVALUE 'bolt 10'\n",
+    ),
+    // A session scans its own changes over the rows, in the order of keys; a shorter key comes first.
+    (
+        b"db_online\ns 1 put 500 'b' '1'\ns 1 put 500 'c' '2'\ns 1 put 499 'x' '9'\ns 1 commit\ns 7 del 500 'c'\ns 7 put 500 'ab' '3'\ns 7 put 500 'a' ''\ns 7 put 500 x'FF' x'00'\ns 7 scan 500\ns 7 scan 498\ns 7 del 500 'c'\ns 7 rollback\ns 8 scan 500\n",
+        b"OK ONLINE 0\nOK PUT\nOK PUT\nOK PUT\nCOMMIT 1\nOK DEL\nOK PUT\nOK PUT\nOK PUT\nROW 'a' ''\nROW 'ab' '3'\nROW 'b' '1'\nROW x'ff' x'00'\nOK SCAN 4\nOK SCAN 0\nNONE\nOK ROLLBACK\nROW 'b' '1'\nROW 'c' '2'\nOK SCAN 2\n",
+    ),
+    // A deletion is committed, and found again by a restart. Without a change there is none.
+    (
+        b"db_online\ns 1 put 1 'k' 'v'\ns 1 commit\ns 1 del 1 'k'\ns 1 del 1 'k'\ns 1 commit\ns 1 commit\nkill\ndb_online\ns 2 get 1 'k'\ns 2 scan 1\ns 2 rollback\ns 2 rollback\n",
+        b"OK ONLINE 0\nOK PUT\nCOMMIT 1\nOK DEL\nNONE\nCOMMIT 2\nOK EMPTY\nOK OFFLINE\nOK ONLINE 2\nNONE\nOK SCAN 0\nOK ROLLBACK\nOK ROLLBACK\n",
+    ),
+    (
+        b"s 1 del 1 'k'\ns 1 scan 1\ns 1 rollback\n",
+        b"ERR 2 STATE OFFLINE\nERR 2 STATE OFFLINE\nERR 2 STATE OFFLINE\n",
     ),
 ];
 
@@ -106,10 +130,50 @@ fn a_large_transaction_is_refused(rt: HostRuntime) -> Result<(), Fail> {
     for key in b'a'..=b'k' {
         push_put(&mut script, key, 1500)?;
     }
+    script.extend_from_slice(b"s 1 rollback\ns 2 get 1 'a'\n")?;
     let mut host = MemHost::new(rt.alloc(), &[])?;
     make_log(&mut host, 4);
     assert_eq!(rt; run_script(&rt, &mut host, &script)?, Status::Done);
-    assert!(rt; host.output().ends_with(b"OK PUT\nERR 6 TRANSLARGE 16621\n"));
+    assert!(rt;
+        host.output()
+            .ends_with(b"OK PUT\nERR 6 TRANSLARGE 16621\nOK ROLLBACK\nNONE\n")
+    );
+    Ok(())
+}
+
+// A put of a key and a value of so many bytes in a table of a log of 8 pages.
+fn put_of_lengths(rt: &HostRuntime, key: usize, value: usize) -> Result<Vec<u8>, Fail> {
+    let mut script = b"db_online\ns 64 put 500 '".to_vec(rt.alloc())?;
+    for _ in 0..key {
+        script.push(b'k')?;
+    }
+    script.extend_from_slice(b"' '")?;
+    for _ in 0..value {
+        script.push(b'v')?;
+    }
+    script.extend_from_slice(b"'\ns 64 commit\nkill\ndb_online\ns 1 scan 500\n")?;
+    let mut host = MemHost::new(rt.alloc(), &[])?;
+    make_log(&mut host, 8);
+    let _ = run_script(rt, &mut host, &script)?;
+    Ok(host.output().to_vec(rt.alloc())?)
+}
+
+#[test]
+fn the_longest_key_and_value_are_kept(rt: HostRuntime) -> Result<(), Fail> {
+    let longest = put_of_lengths(&rt, 256, 1500)?;
+    assert!(rt;
+        longest.starts_with(b"OK ONLINE 0\nOK PUT\nCOMMIT 1\nOK OFFLINE\nOK ONLINE 1\nROW 'kkkk")
+    );
+    assert!(rt; longest.ends_with(b"vvvv'\nOK SCAN 1\n"));
+    // The replies before; ROW and a blank; the key in its quotes; a blank; the value; a line feed; the last reply.
+    assert_eq!(rt; longest.len(), 51 + 4 + 258 + 1 + 1502 + 1 + 10);
+    for (key, value) in [(257, 1500), (256, 1501), (0, 1)] {
+        let refused = put_of_lengths(&rt, key, value)?;
+        assert_eq!(rt;
+            refused.as_slice(),
+            b"OK ONLINE 0\nERR 1 SYNTAX\nOK EMPTY\nOK OFFLINE\nOK ONLINE 0\nOK SCAN 0\n".as_slice()
+        );
+    }
     Ok(())
 }
 

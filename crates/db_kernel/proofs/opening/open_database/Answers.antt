@@ -1,4 +1,4 @@
-use Rattle.std.proofs.Common.{arith}
+use Rattle.std.proofs.Common.{◌∙◌, ◌-◌, min, arith}
 use Rattle.mdb_model.specs.declared.fault.Device.TheVariants.{Log}
 use Rattle.redo_ring.proofs.Places.{agree_on}
 use Rattle.db_kernel.proofs.Opened.{synced_stays, opened_refused, log_of_ring, redo_refused, redo_tells}
@@ -20,7 +20,9 @@ returns-in-Ok-redo-clause-finds g c told size commits is has log small =
       at_end = found.1;
       at_last = found.2;
       rows = c.in-Ok-redo.ensures.all told commits there (omega (arith, small, found.0)) found.1;
-      none = c.new-in-Ok-redo.ensures;
+      free = c.new-in-Ok-redo.ensures.locks;
+      unchanged = c.new-in-Ok-redo.ensures.changes;
+      most = c.new-in-Ok-redo.ensures.most ∙ c.most_bytes.ensures ∙ (λ i. min 1048576 (found.0 i - 1));
     }
 
 pub returns-in-Ok-redo-clause-synced : goal.returns-in-Ok-redo-clause-synced

@@ -1,8 +1,8 @@
 use Rattle.std.proofs.Common.{sym}
 use Rattle.mdb_model.specs.Tables.{place_cmp}
 use Rattle.db_kernel.specs.Rows.{row_place}
-use Rattle.db_kernel.proofs.Sorted.{find-at, find-gap}
-use Rattle.db_kernel.proofs.NetChanges.{place_total}
+use Rattle.sorted_places.proofs.Sorted.{find-at, find-gap}
+use Rattle.sorted_places.proofs.Places.{place_total}
 use Rattle.db_kernel.proofs.rows.find_row.Goals as goal
 
 pub returns-in-Ok : goal.returns-in-Ok

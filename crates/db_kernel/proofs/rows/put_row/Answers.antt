@@ -1,8 +1,8 @@
 use Rattle.std.proofs.Common.{arith}
 use Rattle.mdb_model.specs.Tables.{place_cmp}
 use Rattle.db_kernel.specs.Rows.{row_place}
-use Rattle.db_kernel.proofs.Sorted.{put-at, put-gap}
-use Rattle.db_kernel.proofs.NetChanges.{place_total, place_exact}
+use Rattle.sorted_places.proofs.Sorted.{put-at, put-gap}
+use Rattle.sorted_places.proofs.Places.{place_total, place_exact}
 use Rattle.db_kernel.proofs.rows.put_row.Goals as goal
 
 pub returns-in-Ok-clause-rows : goal.returns-in-Ok-clause-rows

@@ -2,8 +2,8 @@ use Rattle.std.proofs.Common.{rules}
 use Rattle.std.proofs.lemmas.Fn.{always_returns_same}
 use Rattle.mdb_model.specs.Tables.{place_cmp}
 use Rattle.db_kernel.specs.Rows.{row_place}
-use Rattle.db_kernel.proofs.Sorted.{searched, sorted_from_rises}
-use Rattle.db_kernel.proofs.NetChanges.{place_total}
+use Rattle.sorted_places.proofs.Sorted.{searched, sorted_from_rises}
+use Rattle.sorted_places.proofs.Places.{place_total}
 use Rattle.db_kernel.proofs.rows.search.Goals as goal
 
 -- the closure gives how a row's place stands to the one that is sought

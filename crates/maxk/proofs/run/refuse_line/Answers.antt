@@ -1,35 +1,21 @@
-use Rattle.std.proofs.Common.{refl, None}
-use Rattle.mdb_model.specs.declared.script.Refusal.TheVariants.{Syntax}
-use Rattle.mdb_model.specs.Answers.{refused}
-use Rattle.mdb_model.specs.Text.{text_of}
-use Rattle.mdb_bytes.specs.LogAlone.{Stands}
+use Rattle.std.proofs.Common.{None}
 use Rattle.db_kernel.specs.Kept.{Fits}
-use Rattle.db_kernel.specs.Working.{no_pages}
 use Rattle.maxk.proofs.Answering.{syntax_answered}
+use Rattle.maxk.proofs.Outcomes.{turned_err}
 use Rattle.maxk.proofs.ReadingLaws.{too_long-answered, too_long-Reads}
-use Rattle.maxk.proofs.Saying.{line_taken, line_taken_whole}
 use Rattle.maxk.proofs.run.refuse_line.Goals as goal
 
-pub returns-in-Ok-clause-turned : goal.returns-in-Ok-clause-turned
-returns-in-Ok-clause-turned g c told text long ws fit stand =
-    let d0 = g.H.Host.disk c.args.host.now in (
+pub returns-in_err-refuse-clause-turned : goal.returns-in_err-refuse-clause-turned
+returns-in_err-refuse-clause-turned g c told text long ws fit stand =
+    let d0 = g.H.Host.disk c.args.host.now in
+    turned_err d0 (g.H.Host.disk c.refuse.new.host) (g.H.Host.faults c.args.host.now) (g.H.Host.faults c.refuse.new.host) ws text c.args.kernel.now.database c.from_residual.result c.from_residual.ensures.0 (
       too_long-answered text long,
-      (
-        None,
-        too_long-Reads text long,
-        line_taken_whole no_pages Stands d0 d0 (g.H.Host.disk c.say_reply.new.host) (g.H.Host.faults c.args.host.now) (g.H.Host.faults c.say_reply.new.host) ws None (refused Syntax) (Fits c.args.kernel.now.database)
-            (syntax_answered d0 ws (Fits c.args.kernel.now.database) fit stand) (λ is. cc) (text_of (refused Syntax)) refl (c.say_reply.ensures.says told) (c.in-Ok.ensures.said told),
-      ),
+      (None, too_long-Reads text long, c.in_err-refuse.ensures.does told ws None (syntax_answered d0 ws (Fits c.args.kernel.now.database) fit stand)),
     )
 
-pub returns-in-Err-clause-turned : goal.returns-in-Err-clause-turned
-returns-in-Err-clause-turned g c told text long ws fit stand =
+pub returns-clause-turned : goal.returns-clause-turned
+returns-clause-turned g c told text long ws fit stand =
     let d0 = g.H.Host.disk c.args.host.now in (
       too_long-answered text long,
-      (
-        None,
-        too_long-Reads text long,
-        line_taken no_pages Stands d0 d0 (g.H.Host.disk c.say_reply.new.host) (g.H.Host.faults c.args.host.now) (g.H.Host.faults c.say_reply.new.host) ws None (refused Syntax) (Fits c.args.kernel.now.database)
-            (syntax_answered d0 ws (Fits c.args.kernel.now.database) fit stand) (λ is. cc) (text_of (refused Syntax)) refl (c.say_reply.ensures.says told),
-      ),
+      (None, too_long-Reads text long, c.in_ok-refuse.ensures.does told ws None (syntax_answered d0 ws (Fits c.args.kernel.now.database) fit stand)),
     )

@@ -1,5 +1,4 @@
-use Rattle.std.proofs.Common.{sym, subst, ◌≡◌, ◌+◌, ◌++◌, ◌≤◌, ℕ, List, Option, Some, None, map, arith}
-use Rattle.mdb_host.specs.Disk.{Disk}
+use Rattle.std.proofs.Common.{sym, subst, ◌≡◌, ◌+◌, ◌++◌, ◌≤◌, ℕ, List, Option, None, map, arith}
 use Rattle.mdb_host.proofs.Moments.{keeps_all, keeps_on}
 use Rattle.mdb_model.specs.Runs.{last_worlds}
 use Rattle.db_kernel.specs.declared.kernel.Kernel.{Kernel}
@@ -12,14 +11,14 @@ use Rattle.db_kernel.specs.Kept.{Ready, Meets, Fits}
 use Rattle.db_kernel.specs.Working.{no_pages}
 use Rattle.maxk.specs.Progress.{IsLineText, weight_in, Progress, Promised}
 use Rattle.maxk.proofs.Progressing.{progress_first, ends_memory, ends_done, ends_script, ends_limit, ends_say, progress_turned, finds_end, finds_line}
-use Rattle.maxk.proofs.Turns.{start_stand, start_rest}
+use Rattle.maxk.proofs.Turns.{start_stand, start_rest, start_serial}
 use Rattle.maxk.proofs.run.run.Goals as goal
 
 pub returns-in_default-clause-promise : goal.returns-in_default-clause-promise
 returns-in_default-clause-promise g c told bytes is_left pages_in savepoint_in commit_in past_end from can =
     let d = g.H.Host.disk c.args.host.now in
     subst (λ (o : Option (List ℕ)). Promised pages_in savepoint_in commit_in past_end d d (g.H.Host.faults c.args.host.now) (g.H.Host.faults c.args.host.now) from Memory bytes o) (sym is_left)
-    (ends_memory pages_in savepoint_in commit_in past_end from d (g.H.Host.faults c.args.host.now) bytes (start_stand no_pages Stands d d (keeps_all d) pages_in savepoint_in commit_in past_end from can))
+    (ends_memory pages_in savepoint_in commit_in past_end from (start_serial no_pages Stands d d (keeps_all d) pages_in savepoint_in commit_in past_end from can) d (g.H.Host.faults c.args.host.now) bytes (start_stand no_pages Stands d d (keeps_all d) pages_in savepoint_in commit_in past_end from can))
 
 pub loop-count-init : goal.loop-count-init
 loop-count-init g c =
@@ -46,7 +45,7 @@ returns-in_default-advance-clause-promise g c told bytes is_left pages_in savepo
     let inv = c.loop-count.invariant in
     let p = inv.progress told bytes is_left (map (λ (e : World × Ages). e.0) from) (start_rest no_pages Stands d0 d1 (inv.keeps told) pages_in savepoint_in commit_in past_end from can) (start_stand no_pages Stands d0 d1 (inv.keeps told) pages_in savepoint_in commit_in past_end from can) in
     let a = c.in_default-advance.ensures.advances p.given p.left p.done p.is_left p.read in
-    ends_script pages_in savepoint_in commit_in past_end from d0 d1 (g.H.Host.faults c.args.host.now) (g.H.Host.faults c.loop-count.host) bytes c.loop-count.kernel.database c.loop-count.reader (g.S.Source.left c.loop-count.source) c.loop-count.count p a.0 a.1 a.2 (g.S.Source.left c.advance.new.source) a.3 a.4
+    ends_script pages_in savepoint_in commit_in past_end from (start_serial no_pages Stands d0 d1 (inv.keeps told) pages_in savepoint_in commit_in past_end from can) d0 d1 (g.H.Host.faults c.args.host.now) (g.H.Host.faults c.loop-count.host) bytes c.loop-count.kernel.database c.loop-count.reader (g.S.Source.left c.loop-count.source) c.loop-count.count p a.0 a.1 a.2 (g.S.Source.left c.advance.new.source) a.3 a.4
 
 pub returns-then-is_end-clause-promise : goal.returns-then-is_end-clause-promise
 returns-then-is_end-clause-promise g c told bytes is_left pages_in savepoint_in commit_in past_end from can =
@@ -56,7 +55,7 @@ returns-then-is_end-clause-promise g c told bytes is_left pages_in savepoint_in 
     let p = inv.progress told bytes is_left (map (λ (e : World × Ages). e.0) from) (start_rest no_pages Stands d0 d1 (inv.keeps told) pages_in savepoint_in commit_in past_end from can) (start_stand no_pages Stands d0 d1 (inv.keeps told) pages_in savepoint_in commit_in past_end from can) in
     let a = c.in-Ok-advance.ensures.advances p.given p.left p.done p.is_left p.read in
     let found = finds_end c.in-Ok-advance.kind c.advance.new.self (p.given ++ a.0) a.1 p.done (sym c.if-is_end.ensures) a.4 in
-    ends_done pages_in savepoint_in commit_in past_end from d0 d1 (g.H.Host.faults c.args.host.now) (g.H.Host.faults c.loop-count.host) bytes c.loop-count.kernel.database c.loop-count.reader (g.S.Source.left c.loop-count.source) c.loop-count.count p a.0 a.1 a.2 (g.S.Source.left c.advance.new.source) a.3 found.0 found.1
+    ends_done pages_in savepoint_in commit_in past_end from (start_serial no_pages Stands d0 d1 (inv.keeps told) pages_in savepoint_in commit_in past_end from can) d0 d1 (g.H.Host.faults c.args.host.now) (g.H.Host.faults c.loop-count.host) bytes c.loop-count.kernel.database c.loop-count.reader (g.S.Source.left c.loop-count.source) c.loop-count.count p a.0 a.1 a.2 (g.S.Source.left c.advance.new.source) a.3 found.0 found.1
 
 pub returns-then-count-gt-MOST_LINES-clause-promise : goal.returns-then-count-gt-MOST_LINES-clause-promise
 returns-then-count-gt-MOST_LINES-clause-promise g c told bytes is_left pages_in savepoint_in commit_in past_end from can =
@@ -66,7 +65,7 @@ returns-then-count-gt-MOST_LINES-clause-promise g c told bytes is_left pages_in 
     let p = inv.progress told bytes is_left (map (λ (e : World × Ages). e.0) from) (start_rest no_pages Stands d0 d1 (inv.keeps told) pages_in savepoint_in commit_in past_end from can) (start_stand no_pages Stands d0 d1 (inv.keeps told) pages_in savepoint_in commit_in past_end from can) in
     let a = c.in-Ok-advance.ensures.advances p.given p.left p.done p.is_left p.read in
     let found = finds_line c.in-Ok-advance.kind c.advance.new.self (p.given ++ a.0) a.1 p.done (sym c.if-is_end.ensures) a.4 in
-    ends_limit pages_in savepoint_in commit_in past_end from d0 d1 (g.H.Host.faults c.args.host.now) (g.H.Host.faults c.loop-count.host) bytes c.loop-count.kernel.database c.loop-count.reader (g.S.Source.left c.loop-count.source) c.loop-count.count p a.0 a.1 a.2 (g.S.Source.left c.advance.new.source) a.3
+    ends_limit pages_in savepoint_in commit_in past_end from (start_serial no_pages Stands d0 d1 (inv.keeps told) pages_in savepoint_in commit_in past_end from can) d0 d1 (g.H.Host.faults c.args.host.now) (g.H.Host.faults c.loop-count.host) bytes c.loop-count.kernel.database c.loop-count.reader (g.S.Source.left c.loop-count.source) c.loop-count.count p a.0 a.1 a.2 (g.S.Source.left c.advance.new.source) a.3
     found.text found.more found.are inv.count (found.past c.loop-count.count inv.count (omega (arith, c.if-count-gt-MOST_LINES.true, c.weight-count.ensures)))
 
 pub loop-count-preserved : goal.loop-count-preserved
@@ -108,5 +107,5 @@ returns-in_default-answer-clause-promise g c told bytes is_left pages_in savepoi
     let a = c.in-Ok-advance.ensures.advances p.given p.left p.done p.is_left p.read in
     let found = finds_line c.in-Ok-advance.kind c.advance.new.self (p.given ++ a.0) a.1 p.done (sym c.if-is_end.ensures) a.4 in
     let m = c.in_default-answer.ensures.turned told found.text (subst (λ (f : List ℕ). IsLineText c.in-Ok-advance.kind f found.text) (sym c.text.ensures) found.is) (last_worlds no_pages (map (λ (e : World × Ages). e.0) from) p.served.run) p.served.fit p.served.stand in
-    ends_say pages_in savepoint_in commit_in past_end from d0 d1 (g.H.Host.faults c.args.host.now) (g.H.Host.faults c.loop-count.host) bytes c.loop-count.kernel.database c.loop-count.reader (g.S.Source.left c.loop-count.source) c.loop-count.count p a.0 a.1 a.2 (g.S.Source.left c.advance.new.source) a.3
+    ends_say pages_in savepoint_in commit_in past_end from (start_serial no_pages Stands d0 d2 keeps pages_in savepoint_in commit_in past_end from can) d0 d1 (g.H.Host.faults c.args.host.now) (g.H.Host.faults c.loop-count.host) bytes c.loop-count.kernel.database c.loop-count.reader (g.S.Source.left c.loop-count.source) c.loop-count.count p a.0 a.1 a.2 (g.S.Source.left c.advance.new.source) a.3
     d2 (g.H.Host.faults c.answer.new.host) inv.faults c.answer.ensures.later found.text found.more found.are m.0 m.1.0 m.1.1 m.1.2

@@ -1,5 +1,5 @@
 use Rattle.std.proofs.Common.{◌≡◌, ◌-◌, ◌≤◌, ℕ, List, Some}
-use Rattle.mdb_host.specs.Disk.{Disk, Keeps}
+use Rattle.mdb_host.specs.Disk.{Keeps}
 use Rattle.mdb_model.specs.Worlds.{World}
 use Rattle.mdb_bytes.specs.LogAlone.{Stands}
 use Rattle.db_kernel.specs.Kept.{AreOff, Ready, Meets}

@@ -1,33 +1,41 @@
-use Rattle.std.proofs.Common.{refl, sym, subst, ℕ}
-use Rattle.mdb_model.specs.Answers.{plain}
-use Rattle.mdb_model.specs.Causes.{Rose}
-use Rattle.mdb_model.specs.Text.{text_of}
-use Rattle.mdb_bytes.specs.LogAlone.{Stands}
+use Rattle.std.proofs.Common.{subst, Some, None, Err}
+use Rattle.dbm_script.specs.declared.fault.LineFault.{LineFault}
+use Rattle.dbm_script.specs.Reading.{IsParsed}
 use Rattle.db_kernel.specs.Kept.{Fits}
-use Rattle.db_kernel.specs.Working.{no_pages}
-use Rattle.maxk.proofs.Saying.{line_taken, line_taken_whole}
+use Rattle.maxk.proofs.Answering.{syntax_answered, starved_answered}
+use Rattle.maxk.proofs.Outcomes.{turned_err}
 use Rattle.maxk.proofs.run.take_line.Goals as goal
 
-pub returns-in-Ok-clause-turned : goal.returns-in-Ok-clause-turned
-returns-in-Ok-clause-turned g c told ws fit stand =
-    let m = c.in-Some.ensures.answers told ws fit stand in (
-      m.0,
-      (
-        m.1.0,
-        m.1.1,
-        line_taken_whole no_pages Stands (g.H.Host.disk c.args.host.now) (g.H.Host.disk c.reply_to.new.host) (g.H.Host.disk c.say_reply.new.host) (g.H.Host.faults c.args.host.now) (g.H.Host.faults c.say_reply.new.host) ws m.1.0 (plain c.in-Some.reply) (Fits c.reply_to.new.kernel.database) m.1.2
-            (λ is. subst (λ (n : ℕ). Rose (g.H.Host.faults c.args.host.now) n) (sym c.say_reply.ensures.faults) (c.in-Some.ensures.cause is)) (text_of (plain c.in-Some.reply)) refl (c.say_reply.ensures.says told) (c.in-Ok.ensures.said told),
-      ),
+pub returns-in_err-refuse-in-Err-Syntax-clause-turned : goal.returns-in_err-refuse-in-Err-Syntax-clause-turned
+returns-in_err-refuse-in-Err-Syntax-clause-turned g c told ws fit stand =
+    let d0 = g.H.Host.disk c.args.host.now in
+    let parsed = subst (λ (f : LineFault). IsParsed c.args.line.now (Err f)) c.in-Err-Syntax.field-0-is c.in-Err-Syntax.ensures in
+    turned_err d0 (g.H.Host.disk c.refuse.new.host) (g.H.Host.faults c.args.host.now) (g.H.Host.faults c.refuse.new.host) ws c.args.line.now c.args.kernel.now.database c.from_residual-in_err-refuse-in-Err-Syntax.result
+    c.from_residual-in_err-refuse-in-Err-Syntax.ensures.0
+    (parsed.0, (None, parsed.1, c.in_err-refuse-in-Err-Syntax.ensures.does told ws None (syntax_answered d0 ws (Fits c.args.kernel.now.database) fit stand)))
+
+pub returns-in_err-refuse-in-Err-Memory-clause-turned : goal.returns-in_err-refuse-in-Err-Memory-clause-turned
+returns-in_err-refuse-in-Err-Memory-clause-turned g c told ws fit stand =
+    let d0 = g.H.Host.disk c.args.host.now in
+    let parsed = subst (λ (f : LineFault). IsParsed c.args.line.now (Err f)) c.in-Err-Memory.field-0-is c.in-Err-Memory.ensures in
+    turned_err d0 (g.H.Host.disk c.refuse-in-Err-Memory.new.host) (g.H.Host.faults c.args.host.now) (g.H.Host.faults c.refuse-in-Err-Memory.new.host) ws c.args.line.now c.args.kernel.now.database
+    c.from_residual-in_err-refuse-in-Err-Memory.result c.from_residual-in_err-refuse-in-Err-Memory.ensures.0 (
+      parsed.0,
+      (Some parsed.1.0, parsed.1.2, c.in_err-refuse-in-Err-Memory.ensures.does told ws (Some parsed.1.0) (starved_answered d0 ws parsed.1.0 parsed.1.1 (Fits c.args.kernel.now.database) fit stand)),
     )
 
-pub returns-in-Err-clause-turned : goal.returns-in-Err-clause-turned
-returns-in-Err-clause-turned g c told ws fit stand =
-    let m = c.in-Some.ensures.answers told ws fit stand in (
-      m.0,
+pub returns-in_ok-refuse-in-Err-Syntax-clause-turned : goal.returns-in_ok-refuse-in-Err-Syntax-clause-turned
+returns-in_ok-refuse-in-Err-Syntax-clause-turned g c told ws fit stand =
+    let parsed = subst (λ (f : LineFault). IsParsed c.args.line.now (Err f)) c.in-Err-Syntax.field-0-is c.in-Err-Syntax.ensures in
+    (parsed.0, (None, parsed.1, c.in_ok-refuse-in-Err-Syntax.ensures.does told ws None (syntax_answered (g.H.Host.disk c.args.host.now) ws (Fits c.args.kernel.now.database) fit stand)))
+
+pub returns-in_ok-refuse-in-Err-Memory-clause-turned : goal.returns-in_ok-refuse-in-Err-Memory-clause-turned
+returns-in_ok-refuse-in-Err-Memory-clause-turned g c told ws fit stand =
+    let parsed = subst (λ (f : LineFault). IsParsed c.args.line.now (Err f)) c.in-Err-Memory.field-0-is c.in-Err-Memory.ensures in (
+      parsed.0,
       (
-        m.1.0,
-        m.1.1,
-        line_taken no_pages Stands (g.H.Host.disk c.args.host.now) (g.H.Host.disk c.reply_to.new.host) (g.H.Host.disk c.say_reply.new.host) (g.H.Host.faults c.args.host.now) (g.H.Host.faults c.say_reply.new.host) ws m.1.0 (plain c.in-Some.reply) (Fits c.reply_to.new.kernel.database) m.1.2
-            (λ is. subst (λ (n : ℕ). Rose (g.H.Host.faults c.args.host.now) n) (sym c.say_reply.ensures.faults) (c.in-Some.ensures.cause is)) (text_of (plain c.in-Some.reply)) refl (c.say_reply.ensures.says told),
+        Some parsed.1.0,
+        parsed.1.2,
+        c.in_ok-refuse-in-Err-Memory.ensures.does told ws (Some parsed.1.0) (starved_answered (g.H.Host.disk c.args.host.now) ws parsed.1.0 parsed.1.1 (Fits c.args.kernel.now.database) fit stand),
       ),
     )

@@ -1,70 +1,87 @@
-use Rattle.std.proofs.Common.{sym, subst, ap, ◌∙◌, ◌≡◌, ◌+◌, List, length, Err, Some, arith}
-use Rattle.redo_ring.specs.Calls.{AppendAnswer, Untouched}
+use Rattle.std.proofs.Common.{sym, subst, refl, ap, ◌∙◌, ◌≡◌, ◌+◌, ◌==◌, ℕ, List, IsTrue, Err, Some, false, true, eq-eqb, ne_eqb, arith}
+use Rattle.std.specs.FinMap.{values, len}
+use Rattle.std.specs.List.{list_all}
+use Rattle.mdb_bytes.specs.Groups.{change_fits}
+use Rattle.mdb_host.specs.Disk.{Goes, Arrives}
+use Rattle.mdb_model.specs.declared.change.Change.{Change}
+use Rattle.mdb_model.specs.declared.name.Name.{Name}
 use Rattle.mdb_model.specs.declared.script.Command.TheVariants.{CommitWork}
 use Rattle.mdb_model.specs.declared.script.Refusal.{Refusal}
 use Rattle.mdb_model.specs.declared.script.Refusal.TheVariants.{LogFull}
-use Rattle.mdb_model.specs.Answers.{refused}
-use Rattle.mdb_bytes.specs.LogAlone.{Stands}
-use Rattle.db_kernel.specs.Stretch.{Completes}
-use Rattle.db_kernel.specs.Working.{IsOpenNet, no_pages}
-use Rattle.redo_ring.specs.declared.fault.RingFault.{RingFault}
-use Rattle.redo_ring.specs.declared.fault.RingFault.TheVariants.{Failed as RingFailed, Full, Pinned}
-use Rattle.redo_ring.specs.declared.ring.Ring.{Ring}
+use Rattle.mdb_model.specs.declared.script.Reply.TheVariants.{Committed}
+use Rattle.mdb_model.specs.Answers.{plain, refused}
 use Rattle.mdb_model.specs.Sessions.{group_bytes}
-use Rattle.std.specs.FinMap.{values}
-use Rattle.mdb_host.specs.Disk.{Goes, Arrives}
-use Rattle.redo_ring.specs.Ring.{Appends, Appended}
-use Rattle.mdb_model.specs.declared.change.Change.{Change}
 use Rattle.mdb_model.specs.Tables.{with_changes}
-use Rattle.db_kernel.proofs.Moving.{completes}
-use Rattle.db_kernel.proofs.Net.{net_nothing, net_starved, net_full, net_in_doubt, net_commit, length_values}
+use Rattle.mdb_bytes.specs.LogAlone.{Stands}
+use Rattle.redo_ring.specs.declared.fault.RingFault.{RingFault}
+use Rattle.redo_ring.specs.declared.ring.Ring.{Ring}
+use Rattle.redo_ring.specs.Calls.{AppendAnswer, Untouched}
+use Rattle.redo_ring.specs.Ring.{Appends, Appended}
+use Rattle.transactions.specs.Ongoing.{changes_of}
+use Rattle.db_kernel.specs.Sessions.{IsOpen}
+use Rattle.db_kernel.specs.Stretch.{Completes}
+use Rattle.db_kernel.specs.Working.{no_pages}
+use Rattle.db_kernel.proofs.Moving.{completes, commit_none, commit_starved, commit_is_full, commit_in_doubt, commit_open}
 use Rattle.db_kernel.proofs.database.Database.commit.Goals as goal
 
-pub returns-then-is_empty-clause-does : goal.returns-then-is_empty-clause-does
-returns-then-is_empty-clause-does g c told ws fit stand =
+pub returns-then-changed-eq0-clause-does : goal.returns-then-changed-eq0-clause-does
+returns-then-changed-eq0-clause-does g c told ws fit stand =
     let d = c.args.self.now in
-    completes (g.H.Host.disk c.args.host.now) ws _ _ _ (net_nothing d.rows.rows d.transaction d.ring.size d.ring.end_position d.ring.last_commit ws fit (sym c.if-is_empty.ensures)) stand
+    let none : (len (changes_of d.transactions c.args.session.0) == 0) ≡ true = eq-eqb (len (changes_of d.transactions c.args.session.0)) 0 (omega (arith, c.if-changed-eq0.true, c.changed.ensures)) in
+    completes (g.H.Host.disk c.args.host.now) ws _ _ _
+    (commit_none d.rows.rows d.transactions d.ring.size d.ring.end_position d.ring.last_commit ws fit d.rows.rows c.ended.new.self refl c.args.session c.requires.session none c.ended.ensures) stand
 
 pub returns-in_default-clause-does : goal.returns-in_default-clause-does
 returns-in_default-clause-does g c told ws fit stand =
     let d = c.args.self.now in
-    completes (g.H.Host.disk c.args.host.now) ws _ _ _ (net_starved d.rows.rows d.transaction d.ring.size d.ring.end_position d.ring.last_commit ws fit c.reserve.new.self.rows c.reserve.ensures.rows) stand
+    completes (g.H.Host.disk c.args.host.now) ws _ _ _
+    (commit_starved d.rows.rows d.transactions d.ring.size d.ring.end_position d.ring.last_commit ws fit c.reserve.new.self.rows d.transactions c.reserve.ensures.rows c.args.session c.requires.session refl) stand
+
+-- something is to be committed
+some : (n m : ℕ) → n ≡ m → (n ≡ 0 → ⊥) → (m == 0) ≡ false
+some n m same not_none = ne_eqb m 0 (λ none. not_none (same ∙ none))
 
 pub returns-in-Err-Failed-clause-does : goal.returns-in-Err-Failed-clause-does
 returns-in-Err-Failed-clause-does g c told ws fit stand =
     let d = c.args.self.now in
-    let answer = subst (λ (f : RingFault). AppendAnswer d.ring.size d.ring.end_position d.ring.end_position (group_bytes c.changes-2.result.now) (Err f)) c.in-Err-Failed.field-0-is c.in-Err-Failed.ensures.answer in
-    net_in_doubt d.rows.rows d.transaction d.ring.size d.ring.end_position d.ring.last_commit ws fit (sym c.if-is_empty.ensures) (omega (arith, answer.0, ap group_bytes c.changes-2.ensures.value))
-    (g.H.Host.disk c.args.host.now) (g.H.Host.disk c.log_changes.new.host) stand d.ring.name c.requires.log.name
-    (subst (λ (cs : List Change). Goes (g.H.Host.disk c.args.host.now) (g.H.Host.disk c.log_changes.new.host) (Appends d.ring.size d.ring.name d.ring.end_position d.ring.last_commit cs)) c.changes-2.ensures.value (c.log_changes.ensures.any_moment told))
+    let d0 = g.H.Host.disk c.args.host.now in
+    let d1 = g.H.Host.disk c.log_changes.new.host in
+    let answer = subst (λ (f : RingFault). AppendAnswer d.ring.size d.ring.end_position d.ring.end_position (group_bytes c.changes.result.now) (Err f)) c.in-Err-Failed.field-0-is c.in-Err-Failed.ensures.answer in
+    commit_in_doubt d.rows.rows d.transactions d.ring.size d.ring.end_position d.ring.last_commit ws fit c.args.session c.requires.session
+    (some c.changed.result (len (changes_of d.transactions c.args.session.0)) c.changed.ensures c.if-changed-eq0.false) (omega (arith, answer.0, ap group_bytes c.changes.ensures.value)) d0 d1 stand
+    (subst (λ (p : Name × List Change). Goes d0 d1 (Appends d.ring.size p.0 d.ring.end_position d.ring.last_commit p.1)) (λ i. (c.requires.log.name i, c.changes.ensures.value i)) (c.log_changes.ensures.any_moment told))
 
 pub returns-in-Err-Full-clause-does : goal.returns-in-Err-Full-clause-does
 returns-in-Err-Full-clause-does g c told ws fit stand =
     let d = c.args.self.now in
     let r = c.log_changes.new.ring in
-    let answer = subst (λ (f : RingFault). AppendAnswer d.ring.size d.ring.end_position d.ring.end_position (group_bytes c.changes-2.result.now) (Err f)) c.in-Err-Full.field-0-is c.in-Err-Full.ensures.answer in
+    let d0 = g.H.Host.disk c.args.host.now in
+    let answer = subst (λ (f : RingFault). AppendAnswer d.ring.size d.ring.end_position d.ring.end_position (group_bytes c.changes.result.now) (Err f)) c.in-Err-Full.field-0-is c.in-Err-Full.ensures.answer in
     let untouched = subst (λ (f : RingFault). Untouched (Err f) (c.log_changes.new.host ≡ c.args.host.now)) c.in-Err-Full.field-0-is c.in-Err-Full.ensures.untouched in
     let same : r ≡ d.ring = c.in-Err-Full.ensures.err in
-    subst (λ h. Completes no_pages Stands (g.H.Host.disk c.args.host.now) (g.H.Host.disk h) ws (Some (CommitWork (record { 0 = 1 }))) (refused c.log_full.result) (IsOpenNet c.reserve.new.self.rows d.transaction r.size r.end_position r.last_commit)) (sym untouched)
-    (subst (λ (f : Refusal). Completes no_pages Stands (g.H.Host.disk c.args.host.now) (g.H.Host.disk c.args.host.now) ws (Some (CommitWork (record { 0 = 1 }))) (refused f) (IsOpenNet c.reserve.new.self.rows d.transaction r.size r.end_position r.last_commit)) (sym c.log_full.ensures)
-    (completes (g.H.Host.disk c.args.host.now) ws (Some (CommitWork (record { 0 = 1 }))) (refused (LogFull r.end_position r.size)) (IsOpenNet c.reserve.new.self.rows d.transaction r.size r.end_position r.last_commit)
-    (net_full d.rows.rows d.transaction d.ring.size d.ring.end_position d.ring.last_commit ws fit (sym c.if-is_empty.ensures) c.reserve.new.self.rows c.reserve.ensures.rows r.size r.end_position r.last_commit (ap (λ (x : Ring). x.size) same) (ap (λ (x : Ring). x.end_position) same) (ap (λ (x : Ring). x.last_commit) same)
-    r.end_position r.size (ap (λ (x : Ring). x.end_position) same) (ap (λ (x : Ring). x.size) same) (omega (arith, answer.2, ap group_bytes c.changes-2.ensures.value))) stand))
-
-pub settle-requires : goal.settle-requires
-settle-requires g c = omega (arith, c.in-Ok.ensures.ok, ap (λ (cs : List Change). length cs) c.changes.ensures.value, length_values c.args.self.now.transaction)
+    subst (λ h. Completes no_pages Stands d0 (g.H.Host.disk h) ws (Some (CommitWork c.args.session)) (refused c.log_full.result) (IsOpen c.reserve.new.self.rows d.transactions r.size r.end_position r.last_commit)) (sym untouched)
+    (subst (λ (f : Refusal). Completes no_pages Stands d0 d0 ws (Some (CommitWork c.args.session)) (refused f) (IsOpen c.reserve.new.self.rows d.transactions r.size r.end_position r.last_commit)) (sym c.log_full.ensures)
+    (subst (λ (x : Ring). Completes no_pages Stands d0 d0 ws (Some (CommitWork c.args.session)) (refused (LogFull x.end_position x.size)) (IsOpen c.reserve.new.self.rows d.transactions x.size x.end_position x.last_commit)) (sym same)
+    (completes d0 ws (Some (CommitWork c.args.session)) (refused (LogFull d.ring.end_position d.ring.size)) (IsOpen c.reserve.new.self.rows d.transactions d.ring.size d.ring.end_position d.ring.last_commit)
+    (commit_is_full d.rows.rows d.transactions d.ring.size d.ring.end_position d.ring.last_commit ws fit c.reserve.new.self.rows d.transactions c.reserve.ensures.rows c.args.session c.requires.session
+    (some c.changed.result (len (changes_of d.transactions c.args.session.0)) c.changed.ensures c.if-changed-eq0.false) d.ring.end_position d.ring.size refl refl refl (omega (arith, answer.2, ap group_bytes c.changes.ensures.value))) stand)))
 
 pub returns-clause-does : goal.returns-clause-does
 returns-clause-does g c told ws fit stand =
     let d = c.args.self.now in
     let r = c.log_changes.new.ring in
-    let bytes : group_bytes c.changes-2.result.now ≡ group_bytes (values d.transaction) = ap group_bytes c.changes-2.ensures.value in
+    let d0 = g.H.Host.disk c.args.host.now in
+    let d1 = g.H.Host.disk c.log_changes.new.host in
+    let bytes : group_bytes c.changes.result.now ≡ group_bytes (values (changes_of d.transactions c.args.session.0)) = ap group_bytes c.changes.ensures.value in
     let ok = c.in-Ok-log_changes.ensures.ok in
-    let further : r.end_position ≡ d.ring.end_position + group_bytes c.changes-2.result.now = ap (λ (x : Ring). x.end_position) ok in
-    net_commit d.rows.rows d.transaction d.ring.size d.ring.end_position d.ring.last_commit ws fit (sym c.if-is_empty.ensures) (omega (arith, c.in-Ok-log_changes.ensures.answer.0, bytes))
-    (g.H.Host.disk c.args.host.now) (g.H.Host.disk c.log_changes.new.host) stand d.ring.name c.requires.log.name
-    (subst (λ (cs : List Change). Goes (g.H.Host.disk c.args.host.now) (g.H.Host.disk c.log_changes.new.host) (Appends d.ring.size d.ring.name d.ring.end_position d.ring.last_commit cs)) c.changes-2.ensures.value (c.log_changes.ensures.any_moment told))
-    (subst (λ (cs : List Change). Arrives (g.H.Host.disk c.args.host.now) (g.H.Host.disk c.log_changes.new.host) (Appended d.ring.size d.ring.name d.ring.end_position d.ring.last_commit cs)) c.changes-2.ensures.value (c.in-Ok-log_changes.ensures.there told))
-    c.settle.new.rows.rows c.settle.new.self r.size r.end_position r.last_commit (ap (λ (x : Ring). x.size) ok)
-    (c.settle.ensures.rows ∙ (λ i. with_changes (values d.transaction) (c.reserve.ensures.rows i))) c.settle.ensures.changes
-    (omega (arith, further, bytes)) (ap (λ (x : Ring). x.last_commit) ok)
+    let further : r.end_position ≡ d.ring.end_position + group_bytes c.changes.result.now = ap (λ (x : Ring). x.end_position) ok in
+    let ring : c.settle.new.self.ring ≡ r = c.settle.ensures.ring in
+    subst (λ (x : Ring). Completes no_pages Stands d0 d1 ws (Some (CommitWork c.args.session)) (plain (Committed x.last_commit)) (IsOpen c.settle.new.self.rows.rows c.settle.new.self.transactions x.size x.end_position x.last_commit)) (sym ring)
+    (commit_open d.rows.rows d.transactions d.ring.size d.ring.end_position d.ring.last_commit ws fit c.args.session c.requires.session
+    (some c.changed.result (len (changes_of d.transactions c.args.session.0)) c.changed.ensures c.if-changed-eq0.false) (omega (arith, c.in-Ok-log_changes.ensures.answer.0, bytes)) d0 d1 stand
+    (subst (λ (p : Name × List Change). Goes d0 d1 (Appends d.ring.size p.0 d.ring.end_position d.ring.last_commit p.1)) (λ i. (c.requires.log.name i, c.changes.ensures.value i)) (c.log_changes.ensures.any_moment told))
+    (subst (λ (p : Name × List Change). Arrives d0 d1 (Appended d.ring.size p.0 d.ring.end_position d.ring.last_commit p.1)) (λ i. (c.requires.log.name i, c.changes.ensures.value i)) (c.in-Ok-log_changes.ensures.there told))
+    (subst (λ (cs : List Change). IsTrue (list_all change_fits cs)) c.changes.ensures.value c.changes.ensures.each_fits)
+    c.settle.new.self.rows.rows c.settle.new.self.transactions r.size r.end_position r.last_commit (ap (λ (x : Ring). x.size) ok)
+    (c.settle.ensures.rows ∙ (λ i. with_changes (values (changes_of d.transactions c.args.session.0)) (c.reserve.ensures.rows i))) c.settle.ensures.ended
+    (omega (arith, further, bytes)) (ap (λ (x : Ring). x.last_commit) ok))

@@ -1,20 +1,16 @@
-use Rattle.std.proofs.Common.{refl, arith}
-use Rattle.db_kernel.proofs.Net.{net_put_large, net_put_starved, net_put}
+use Rattle.std.proofs.Common.{sym, subst, ap, Some}
+use Rattle.mdb_model.specs.declared.script.Command.TheVariants.{PutRow}
+use Rattle.mdb_model.specs.declared.script.Reply.{Reply}
+use Rattle.mdb_model.specs.Answers.{plain}
+use Rattle.db_kernel.specs.Rows.{KeptRows}
+use Rattle.db_kernel.specs.Sessions.{IsOpen}
+use Rattle.db_kernel.specs.Working.{Moves}
+use Rattle.db_kernel.proofs.Moving.{put_moves}
 use Rattle.db_kernel.proofs.database.Database.put.Goals as goal
 
-pub returns-then-most_bytes-bytes-clause-moves : goal.returns-then-most_bytes-bytes-clause-moves
-returns-then-most_bytes-bytes-clause-moves c ws fit =
+pub returns-clause-moves : goal.returns-clause-moves
+returns-clause-moves c ws at =
     let d = c.args.self.now in
-    net_put_large d.rows.rows d.transaction d.ring.size d.ring.end_position d.ring.last_commit ws fit (record { 0 = 1 }) refl c.args.table c.args.key.now c.args.value.now c.bytes_with-bytes.result c.bytes_with-bytes.ensures
-    (omega (arith, c.if-most_bytes-bytes.true, c.most_bytes.ensures))
-
-pub returns-in-Ok-clause-moves : goal.returns-in-Ok-clause-moves
-returns-in-Ok-clause-moves c ws fit =
-    let d = c.args.self.now in
-    net_put d.rows.rows d.transaction d.ring.size d.ring.end_position d.ring.last_commit ws fit (record { 0 = 1 }) refl c.args.table c.args.key.now c.args.value.now c.put.new.self c.in-Ok.ensures.ok
-    c.bytes_with-bytes.result c.bytes_with-bytes.ensures (omega (arith, c.if-most_bytes-bytes.false, c.most_bytes.ensures))
-
-pub returns-in-Err-clause-moves : goal.returns-in-Err-clause-moves
-returns-in-Err-clause-moves c ws fit =
-    let d = c.args.self.now in
-    net_put_starved d.rows.rows d.transaction d.ring.size d.ring.end_position d.ring.last_commit ws fit (record { 0 = 1 }) refl c.args.table c.args.key.now c.args.value.now c.put.new.self c.in-Err.ensures.err
+    subst (λ (r : Reply). Moves ws (Some (PutRow c.args.session c.args.table c.args.key.now c.args.value.now)) (plain r) (IsOpen c.put-done.new.rows.rows c.put-done.new.self d.ring.size d.ring.end_position d.ring.last_commit)) (sym c.put_answer.ensures)
+    (put_moves d.rows.rows d.transactions d.ring.size d.ring.end_position d.ring.last_commit ws at c.put-done.new.rows.rows c.put-done.new.self
+    (ap (λ (kept : KeptRows). kept.rows) c.put-done.ensures.rows) c.args.session c.requires.session c.args.table c.args.key.now c.args.value.now c.put-done.result c.put-done.ensures.does)

@@ -1,19 +1,14 @@
-use Rattle.std.proofs.Common.{Some, refl, ne_eqb, eq-eqb}
+use Rattle.std.proofs.Common.{Some, refl}
 use Rattle.mdb_model.specs.declared.name.State.TheVariants.{Offline}
 use Rattle.mdb_model.specs.declared.script.Command.TheVariants.{CommitWork}
-use Rattle.mdb_model.specs.declared.script.Refusal.TheVariants.{Syntax, WrongState}
+use Rattle.mdb_model.specs.declared.script.Refusal.TheVariants.{WrongState}
 use Rattle.mdb_model.specs.Answers.{refused}
 use Rattle.db_kernel.specs.Kept.{Fits}
-use Rattle.db_kernel.proofs.Moving.{completes, moves_unbuilt}
+use Rattle.db_kernel.proofs.Moving.{completes}
 use Rattle.db_kernel.proofs.Kernels.{kernel_off}
 use Rattle.db_kernel.proofs.kernel.Kernel.commit.Goals as goal
-
-pub returns-then-session-ne1-clause-does : goal.returns-then-session-ne1-clause-does
-returns-then-session-ne1-clause-does g c told ws fit stand =
-    completes (g.H.Host.disk c.args.host.now) ws (Some (CommitWork c.args.session)) (refused Syntax) (Fits c.args.self.now.database)
-    (moves_unbuilt ws (CommitWork c.args.session) (Fits c.args.self.now.database) (ne_eqb c.args.session.0 1 c.if-session-ne1.true) fit) stand
 
 pub returns-in_default-clause-does : goal.returns-in_default-clause-does
 returns-in_default-clause-does g c told ws fit stand =
     completes (g.H.Host.disk c.args.host.now) ws (Some (CommitWork c.args.session)) (refused (WrongState Offline)) (Fits c.args.self.now.database)
-    (kernel_off c.args.self.now.database c.in_default.is ws (CommitWork c.args.session) (eq-eqb c.args.session.0 1 c.if-session-ne1.false) refl fit) stand
+    (kernel_off c.args.self.now.database c.in_default.is ws (CommitWork c.args.session) refl refl fit) stand

@@ -1,12 +1,10 @@
-use Rattle.std.proofs.Common.{sym, subst, ap, ◌≡◌, ◌∙◌, Some, None, Option, List, true, is_some, Ok, Err}
-use Rattle.mdb_host.specs.Disk.{Disk}
+use Rattle.std.proofs.Common.{sym, subst, Some, Option}
 use Rattle.mdb_model.specs.declared.script.Command.TheVariants.{DbOnline}
 use Rattle.mdb_model.specs.Answers.{refused}
-use Rattle.mdb_model.specs.Worlds.{World}
 use Rattle.mdb_bytes.specs.LogAlone.{Stands}
 use Rattle.db_kernel.specs.declared.database.Database.{Database}
-use Rattle.db_kernel.specs.Kept.{Fits, AreOff}
-use Rattle.db_kernel.specs.Stretch.{Stand, Completes}
+use Rattle.db_kernel.specs.Kept.{Fits}
+use Rattle.db_kernel.specs.Stretch.{Completes}
 use Rattle.db_kernel.specs.Working.{no_pages}
 use Rattle.db_kernel.proofs.Restarting.{opening_twice, opening_done, opening_refused, none_of, off_of}
 use Rattle.db_kernel.proofs.kernel.Kernel.go_online.Goals as goal

@@ -1,9 +1,9 @@
 use Rattle.std.proofs.Common.{sym, ◌∙◌, map}
 use Rattle.mdb_model.specs.Tables.{place_cmp, with_change}
 use Rattle.db_kernel.specs.Rows.{row_place, row_entry}
-use Rattle.db_kernel.proofs.NetChanges.{place_total, place_exact}
-use Rattle.db_kernel.proofs.Sorted.{sorted_from_rises}
-use Rattle.db_kernel.proofs.SortedMaps.{from_put, from_where_key, ascends-put, ascends-where_key}
+use Rattle.sorted_places.proofs.Places.{place_total, place_exact}
+use Rattle.sorted_places.proofs.Sorted.{sorted_from_rises}
+use Rattle.sorted_places.proofs.SortedMaps.{from_put, from_where_key, ascends-put, ascends-where_key}
 use Rattle.db_kernel.proofs.rows.MemRows.apply.Goals as goal
 
 pub invariant_of-self : goal.invariant_of-self

@@ -1,0 +1,73 @@
+-- How many rows a session sees.
+--     length_values      a map has as many values as keys
+--     few_rows      a scan has no more rows than there are rows and changes of the session
+use Rattle.std.proofs.Common.{◌≡◌, sym, ap, ◌∙◌, ℕ, ◌+◌, ◌-◌, ◌^◌, ◌<◌, ◌≤◌, ◌==◌, Bool, true, false, cond, List, [], ◌∷◌, Result, Ok, Err, length, filter, arith}
+use Rattle.std.specs.FinMap.{FinMap, len, len-entries, entries, values, insert, remove, len-insert, len-remove, contains_key}
+use Rattle.std.proofs.lemmas.List.{length-map}
+use Rattle.mdb_model.specs.declared.change.Change.{Change}
+use Rattle.mdb_model.specs.declared.change.Change.TheVariants.{Put, Del}
+use Rattle.mdb_model.specs.declared.name.Session.{Session}
+use Rattle.mdb_model.specs.declared.name.Table.{Table}
+use Rattle.mdb_model.specs.Answers.{Row}
+use Rattle.mdb_model.specs.Steps.{rows_of}
+use Rattle.mdb_model.specs.Tables.{Tables, Place, place_cmp, with_change, with_changes}
+use Rattle.mdb_model.specs.Worlds.{ShareTable}
+use Rattle.sorted_places.proofs.Places.{place_total}
+use Rattle.transactions.specs.declared.fault.TxFault.{TxFault}
+use Rattle.transactions.specs.declared.fault.TxFault.TheVariants as tx
+use Rattle.transactions.specs.Calls.{TakesLock}
+use Rattle.transactions.specs.Ongoing.{Ongoing, changes_of}
+use Rattle.db_kernel.specs.Sessions.{seen_rows}
+use Rattle.db_kernel.proofs.Moving.{NoPage}
+
+-- a map has as many values as keys
+pub length_values : (net : FinMap place_cmp Change) → length (values net) ≡ len net
+length_values net = length-map (entries net) (λ e. e.1) ∙ sym (len-entries net)
+
+-- a change adds one row at most
+one_change : (change : Change) (rows : Tables) → len (with_change change rows) ≤ len rows + 1
+one_change (Put table key value) rows = by_test (contains_key rows (table.0, key)) (len (insert rows (table.0, key) value)) (len-insert place_total rows (table.0, key) value)
+  where
+    by_test : (b : Bool) (n : ℕ) → n ≡ cond b (len rows) (len rows + 1) → n ≤ len rows + 1
+    by_test true n is = omega (arith, is)
+    by_test false n is = omega (arith, is)
+one_change (Del table key) rows = by_test (contains_key rows (table.0, key)) (len (remove rows (table.0, key))) (len-remove place_total rows (table.0, key))
+  where
+    by_test : (b : Bool) (n : ℕ) → n ≡ cond b (len rows - 1) (len rows) → n ≤ len rows + 1
+    by_test true n is = omega (arith, is)
+    by_test false n is = omega (arith, is)
+
+all_changes : (changes : List Change) (rows : Tables) → len (with_changes changes rows) ≤ len rows + length changes
+all_changes [] rows = omega arith
+all_changes (change ∷ changes) rows = omega (arith, all_changes changes (with_change change rows), one_change change rows)
+
+-- the rows of one table are no more than all rows
+pub some_rows : (rows : Tables) (table : ℕ) → length (rows_of rows table) ≤ len rows
+some_rows rows table =
+    let named = length-map (filter (λ (e : Place × List ℕ). e.0.0 == table) (entries rows)) (λ e. Row e.0.1 e.1) in
+    omega (arith, named, filtered (λ (e : Place × List ℕ). e.0.0 == table) (entries rows), len-entries rows)
+  where
+    filtered : (p : Place × List ℕ → Bool) (es : List (Place × List ℕ)) → length (filter p es) ≤ length es
+    filtered p [] = omega arith
+    filtered p (e ∷ es) = by_test (p e) (filtered p es)
+      where
+        by_test : (b : Bool) → length (filter p es) ≤ length es → length (cond b (e ∷ filter p es) (filter p es)) ≤ length (e ∷ es)
+        by_test true less = omega (arith, less)
+        by_test false less = omega (arith, less)
+
+-- the session's changes stay as it locks a table
+pub changes_kept : (old new : Ongoing) (session : Session) (table : Table) (result : Result (Unit {0}) TxFault) → TakesLock old new session.0 (ShareTable table.0) result → NoPage result
+    → changes_of new session.0 ≡ changes_of old session.0
+changes_kept old new session table (Ok done) takes none = ap (λ (list : List (FinMap place_cmp Change)). changes_of (record old { changes = list }) session.0) takes.1.changes
+changes_kept old new session table (Err (tx.Locked holder)) takes none = ap (λ (x : Ongoing). changes_of x session.0) takes.1
+changes_kept old new session table (Err tx.Memory) takes none = ap (λ (x : Ongoing). changes_of x session.0) takes.1
+changes_kept old new session table (Err (tx.TooLarge bytes)) takes none = absurd takes
+changes_kept old new session table (Err tx.Full) takes none = absurd takes
+changes_kept old new session table (Err (tx.Page fault)) takes none = absurd none
+
+pub few_rows : (rows : Tables) (old new : Ongoing) (session : Session) (table : Table) (result : Result (Unit {0}) TxFault) → TakesLock old new session.0 (ShareTable table.0) result → NoPage result
+    → (count : ℕ) → count ≡ len rows → count < 2 ^ 63 → (changes : ℕ) → changes ≡ length (values (changes_of old session.0)) → changes < 2 ^ 63
+    → length (rows_of (seen_rows rows new session.0) table.0) < 2 ^ 64
+few_rows rows old new session table result takes none count counted few changes are small =
+    let same : length (values (changes_of new session.0)) ≡ length (values (changes_of old session.0)) = ap (λ (net : FinMap place_cmp Change). length (values net)) (changes_kept old new session table result takes none) in
+    omega (arith, some_rows (seen_rows rows new session.0) table.0, all_changes (values (changes_of new session.0)) rows, same, counted, few, are, small)

@@ -1,9 +1,0 @@
-use Rattle.std.proofs.Common.{ap, ◌∙◌, map}
-use Rattle.std.specs.FinMap.{from_sorted}
-use Rattle.mdb_model.specs.Tables.{place_cmp}
-use Rattle.db_kernel.specs.Rows.{placed}
-use Rattle.db_kernel.proofs.SortedMaps.{from_none}
-use Rattle.db_kernel.proofs.transaction.OpenTransaction.new.Goals as goal
-
-pub returns : goal.returns
-returns c = ap (λ changes. from_sorted {R = place_cmp} (map placed changes)) c.new.ensures.items ∙ from_none

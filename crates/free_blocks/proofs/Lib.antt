@@ -1,0 +1,4 @@
+pub mod Counts
+mod Words
+mod Packed
+mod Bits

@@ -1,0 +1,5 @@
+pub mod Answering
+pub mod SessionLocks
+pub mod Found
+pub mod Numbers
+pub mod Agreement

@@ -1,0 +1,5 @@
+pub mod LockedPlaces
+pub mod LockedTables
+pub mod Holding
+pub mod Holders
+pub mod Agreeing

@@ -1,0 +1,124 @@
+//! The locks of all sessions.
+ghost use Rattle.std.specs.Prelude.{◌≡◌, ℕ, length, false, option_map, IsTrue};
+ghost use Rattle.std.specs.Option.{option_copied};
+ghost use Rattle.mdb_model.specs.Script.{is_session};
+ghost use Rattle.mdb_model.specs.Worlds.{Lock, ShareKey, ExclusiveKey, ShareTable};
+ghost use Rattle.record_locks.specs.Holding.{wanted_lock, lock_on};
+ghost use Rattle.record_locks.specs.Holders.{bars, holder_in, Takes, LetGo};
+
+use crate::fault::LockFault;
+use crate::held::{HeldLocks, Wanted};
+use mdb_model::bytes::Key;
+use mdb_model::fault::Memory;
+use mdb_model::name::{Session, Table};
+use std::alloc::Global;
+use std::array;
+use std::marker::Model;
+
+/// The locks of the sessions 1 to 64.
+#[derive(Drop)]
+pub struct Locks {
+    alloc: Global,
+    // at the index of a session's number are its locks, and no session has the number 0
+    sessions: [HeldLocks; 65],
+}
+
+impl Model for Locks {
+    ghost use Rattle.std.specs.Prelude.{List};
+    ghost use Rattle.mdb_model.specs.Worlds.{Lock};
+
+    ghost Value = { List (List Lock) };
+
+    ghost view = { λ a. a.sessions };
+}
+
+// The lowest session but this one that bars the lock.
+fn lowest_holder(sessions: &[HeldLocks], session: Session, wanted: Wanted) -> Option<Session>
+    requires { length sessions.now ≡ 65 }
+    ensures { option_map (λ holder. holder.0) result ≡ holder_in sessions.now session.0 (wanted_lock wanted.entry) }
+{
+    for number in 1..65u8 {
+        if number != session.0 && sessions[number as usize].bars(wanted) {
+            return Some(Session(number));
+        }
+    }
+    None
+}
+
+impl Locks {
+    /// No session has a lock. It takes no memory.
+    pub fn new(alloc: Global) -> Locks
+        ensures { (session : ℕ) (lock : Lock) → bars result session lock ≡ false }
+    {
+        Locks {
+            alloc,
+            sessions: array::from_fn(|_| HeldLocks::new(alloc)),
+        }
+    }
+
+    // Takes the lock, if no other session bars it.
+    fn take(&mut self, session: Session, wanted: Wanted) -> Result<(), LockFault>
+        requires { IsTrue (is_session session.0) }
+        ensures { Takes self.old self.new session.0 (wanted_lock wanted.entry) result }
+    {
+        if let Some(holder) = lowest_holder(&self.sessions, session, wanted) {
+            return Err(LockFault::Held(holder));
+        }
+        match self.sessions[session.0 as usize].take(self.alloc, wanted) {
+            Ok(()) => Ok(()),
+            Err(Memory) => Err(LockFault::Memory),
+        }
+    }
+
+    /// Locks a key, to read its row.
+    pub fn share_key(&mut self, s: Session, t: Table, key: &Key) -> Result<(), LockFault>
+        requires session { IsTrue (is_session s.0) }
+        ensures { Takes self.old self.new s.0 (ShareKey (t.0, key.now)) result }
+    {
+        self.take(s, Wanted::ShareKey(t, key))
+    }
+
+    /// Locks a key, to change its row.
+    pub fn exclusive_key(&mut self, s: Session, t: Table, key: &Key) -> Result<(), LockFault>
+        requires session { IsTrue (is_session s.0) }
+        ensures { Takes self.old self.new s.0 (ExclusiveKey (t.0, key.now)) result }
+    {
+        self.take(s, Wanted::ExclusiveKey(t, key))
+    }
+
+    /// Locks a table, to read all its rows.
+    pub fn share_table(&mut self, s: Session, t: Table) -> Result<(), LockFault>
+        requires session { IsTrue (is_session s.0) }
+        ensures { Takes self.old self.new s.0 (ShareTable t.0) result }
+    {
+        self.take(s, Wanted::ShareTable(t))
+    }
+
+    /// Lets all locks of the session go.
+    pub fn release(&mut self, s: Session)
+        requires session { IsTrue (is_session s.0) }
+        ensures { LetGo self.old self.new s.0 }
+    {
+        self.sessions[s.0 as usize].clear();
+    }
+
+    /// The lowest other session with a lock that conflicts with this one: on a key, exclusive or
+    /// not, or where no key is named on the table. It takes no lock.
+    pub fn holder(
+        &self,
+        s: Session,
+        t: Table,
+        key: Option<&Key>,
+        exclusive: bool,
+    ) -> Option<Session>
+        requires session { IsTrue (is_session s.0) }
+        ensures { option_map (λ holder. holder.0) result ≡ holder_in self.now s.0 (lock_on t.0 (option_copied key.entry) exclusive) }
+    {
+        let wanted = match key {
+            Some(key) if exclusive => Wanted::ExclusiveKey(t, key),
+            Some(key) => Wanted::ShareKey(t, key),
+            None => Wanted::ShareTable(t),
+        };
+        lowest_holder(&self.sessions, s, wanted)
+    }
+}

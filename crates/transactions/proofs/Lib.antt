@@ -1,0 +1,5 @@
+pub mod NetChanges
+pub mod NetLists
+pub mod Numbered
+pub mod Machine
+pub mod UnderLocks

@@ -1,0 +1,38 @@
+//! Why a line of a session is refused, or fails.
+ghost use Rattle.std.specs.Prelude.{◌≡◌};
+ghost use Rattle.transactions.specs.Faults.{fault_of};
+
+use mdb_model::fault::PageFault;
+use mdb_model::name::Session;
+use record_locks::LockFault;
+use thiserror::Error;
+
+/// Why a line of a session is refused, or fails.
+#[derive(Clone, Copy, Debug, PartialEq, Eq, Error)]
+pub enum TxFault {
+    /// This session has a lock that conflicts with the line's.
+    #[error("session {} holds a lock that conflicts", .0.0)]
+    Locked(Session),
+    /// A commit of the session's changes would have so many bytes.
+    #[error("a commit would have {0} bytes")]
+    TooLarge(u64),
+    /// Memory was wanting.
+    #[error("memory was wanting")]
+    Memory,
+    /// The blocks of the data area do not suffice.
+    #[error("the data area is full")]
+    Full,
+    /// The rows could not be read.
+    #[error(transparent)]
+    Page(PageFault),
+}
+
+// A lock that is not given, as the fault of a line.
+pub(crate) fn from_lock(fault: LockFault) -> TxFault
+    ensures { result ≡ fault_of fault }
+{
+    match fault {
+        LockFault::Held(holder) => TxFault::Locked(holder),
+        LockFault::Memory => TxFault::Memory,
+    }
+}
