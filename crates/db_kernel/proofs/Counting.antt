@@ -71,3 +71,9 @@ pub few_rows : (rows : Tables) (old new : Ongoing) (session : Session) (table : 
 few_rows rows old new session table result takes none count counted few changes are small =
     let same : length (values (changes_of new session.0)) ≡ length (values (changes_of old session.0)) = ap (λ (net : FinMap place_cmp Change). length (values net)) (changes_kept old new session table result takes none) in
     omega (arith, some_rows (seen_rows rows new session.0) table.0, all_changes (values (changes_of new session.0)) rows, same, counted, few, are, small)
+
+-- the same of a session as it is
+pub few_seen : (rows : Tables) (ongoing : Ongoing) (session : Session) (table : Table) → (count : ℕ) → count ≡ len rows → count < 2 ^ 63 → (changes : ℕ) → changes ≡ length (values (changes_of ongoing session.0)) → changes < 2 ^ 63
+    → length (rows_of (seen_rows rows ongoing session.0) table.0) < 2 ^ 64
+few_seen rows ongoing session table count counted few changes are small =
+    omega (arith, some_rows (seen_rows rows ongoing session.0) table.0, all_changes (values (changes_of ongoing session.0)) rows, counted, few, are, small)

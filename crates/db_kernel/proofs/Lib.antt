@@ -8,6 +8,9 @@ pub mod Moving
 pub mod Counting
 pub mod WholeLog
 pub mod Restarting
+pub mod Volumes
+pub mod Results
+pub mod Numbers
 pub mod Opened
 pub mod Kernels
 pub mod Behind

@@ -12,12 +12,12 @@ use Rattle.mdb_model.specs.declared.change.Commit.{Commit}
 use Rattle.mdb_model.specs.declared.name.Session.{Session}
 use Rattle.mdb_model.specs.declared.name.Table.{Table}
 use Rattle.mdb_model.specs.declared.name.State.{State}
-use Rattle.mdb_model.specs.declared.name.State.TheVariants.{Offline, Online}
+use Rattle.mdb_model.specs.declared.name.State.TheVariants.{Offline, Admin as AdminState, Online as OnlineState}
 use Rattle.mdb_model.specs.declared.script.Command.{Command}
-use Rattle.mdb_model.specs.declared.script.Command.TheVariants.{GetRow, PutRow, DelRow, ScanTable, CommitWork, RollbackWork, DbOnline, Kill}
+use Rattle.mdb_model.specs.declared.script.Command.TheVariants.{GetRow, PutRow, DelRow, ScanTable, CommitWork, RollbackWork, DbAdmin, DbOnline, DbOffline, DbState, Kill}
 use Rattle.mdb_model.specs.declared.script.Refusal.{Refusal}
 use Rattle.mdb_model.specs.declared.script.Refusal.TheVariants.{Syntax, WrongState, Locked, TransactionLarge, LogFull, MemoryWanting, DeviceFailed}
-use Rattle.mdb_model.specs.declared.script.Reply.TheVariants.{Refused, NoRow, OfflineNow, PutDone, DelDone, ScanOpen, NothingToCommit, Committed, RolledBack, OnlineAt}
+use Rattle.mdb_model.specs.declared.script.Reply.TheVariants.{Refused, NoRow, OfflineNow, PutDone, DelDone, ScanOpen, NothingToCommit, Committed, RolledBack, AdminAt, OnlineAt, StateIs}
 use Rattle.mdb_model.specs.Tables.{place_of, with_commits}
 use Rattle.mdb_model.specs.Pages.{PageReading}
 use Rattle.mdb_model.specs.Worlds.{World, Transaction, Lock, ShareKey, ExclusiveKey, ShareTable, transaction, no_transaction, off, without_transaction}
@@ -26,15 +26,23 @@ use Rattle.mdb_model.specs.Answers.{Answer, plain, refused, row_reply}
 use Rattle.mdb_model.specs.Stages.{is_built, rows_in_memory}
 use Rattle.mdb_model.specs.Steps.{Facts, done, Fits, locked, changed, committed_by, has_changes, rows_of}
 use Rattle.mdb_model.specs.Refusals.{refusal, refusal_with, medium_full, first_cause, refuse_if, states_of, same_state, too_large, log_full, wrong_state}
-use Rattle.mdb_model.specs.Runs.{Step, Entry, Stepped, Starved, Failed, FoundOut, AreOutcomes, AreAllOutcomes, may_want_memory}
+use Rattle.mdb_model.specs.Runs.{Step, Entry, Stepped, Starved, Failed, FoundOut, AreOutcomes, AreAllOutcomes, MayHaveSaid, may_want_memory}
 use Rattle.mdb_model.proofs.StepLemmas.{CommandStep-done, CommandStep-refused, first_cause-none}
 use Rattle.mdb_bytes.specs.LogReading.{log_bytes}
-use Rattle.mdb_bytes.specs.LogAlone.{at_rest}
-use Rattle.db_kernel.specs.Working.{working, open_of, seen_by, with_lock, with_one_change}
+use Rattle.creation.specs.Standing.{Made, at_rest}
+use Rattle.db_kernel.specs.declared.database.Access.{Access}
+use Rattle.db_kernel.specs.declared.database.Access.TheVariants.{Admin, Online}
+use Rattle.db_kernel.specs.Access.{opens, opened_reply}
+use Rattle.db_kernel.specs.Working.{working, in_admin, open_of, seen_by, with_lock, with_one_change}
 
 -- nothing was learnt
 abbrev pub no_facts : Facts
 no_facts = record { pages = empty; savepoint = 0; left = None; record_past_end = false; header_past_end = false }
+
+-- the world of a database that was opened
+abbrev pub opened_world : Access → Made → List Commit → World
+opened_world Admin made commits = in_admin made commits
+opened_world Online made commits = working made commits empty
 
 module _ (reading : PageReading) where
   -- Any worlds
@@ -60,17 +68,17 @@ module _ (reading : PageReading) where
   pub entry_unbuilt : (ws : List World) (line : Command) → is_built line ≡ false → Entry reading ws (Some line) (refused Syntax) ws
   entry_unbuilt ws line not_built = entry_refused ws line Syntax (λ k d inside. refusal_unbuilt _ line not_built)
 
-  -- a line for Online alone, in Offline
-  pub refusal_offline : (w : World) (line : Command) → is_built line ≡ true → states_of line ≡ Online ∷ [] → w.state ≡ Offline → refusal reading w no_facts line ≡ Some (WrongState Offline)
+  -- a line for OnlineState alone, in Offline
+  pub refusal_offline : (w : World) (line : Command) → is_built line ≡ true → states_of line ≡ OnlineState ∷ [] → w.state ≡ Offline → refusal reading w no_facts line ≡ Some (WrongState Offline)
   refusal_offline w line built states offline =
       ap (λ (b : Bool). if b then refusal_with reading w no_facts rows_in_memory line else Some Syntax) built
       ∙ second_state _ (states_of line) w.state states offline
     where
-      second_state : (rest : List (Option Refusal)) (some : List State) (s : State) → some ≡ Online ∷ [] → s ≡ Offline
+      second_state : (rest : List (Option Refusal)) (some : List State) (s : State) → some ≡ OnlineState ∷ [] → s ≡ Offline
           → first_cause (refuse_if (not (list_any (same_state s) some)) (WrongState s) ∷ rest) ≡ Some (WrongState Offline)
       second_state rest some s states offline i = first_cause (refuse_if (not (list_any (same_state (offline i)) (states i))) (WrongState (offline i)) ∷ rest)
 
-  pub entry_offline : (ws : List World) (line : Command) → is_built line ≡ true → states_of line ≡ Online ∷ [] → All (λ w. off w ≡ w) ws → Entry reading ws (Some line) (refused (WrongState Offline)) ws
+  pub entry_offline : (ws : List World) (line : Command) → is_built line ≡ true → states_of line ≡ OnlineState ∷ [] → All (λ w. off w ≡ w) ws → Entry reading ws (Some line) (refused (WrongState Offline)) ws
   entry_offline ws line built states all = entry_refused ws line (WrongState Offline) (λ k d inside. refusal_offline _ line built states (sym (ap (λ (v : World). v.state) (all k d inside))))
 
   -- a stop of the program, in any worlds that are off
@@ -110,29 +118,29 @@ module _ (reading : PageReading) where
   entry_starved w line may = Starved ((may, refl), tt)
 
   -- An open world, with the transactions of its sessions
-  module _ (ring : ℕ) (commits : List Commit) (sessions : FinMap nat_cmp Transaction) where
-    pub kill_open : OneStep (working ring commits sessions) Kill (plain OfflineNow) (at_rest ring commits)
-    kill_open = entry_done (working ring commits sessions) Kill refl refl tt
+  module _ (made : Made) (commits : List Commit) (sessions : FinMap nat_cmp Transaction) where
+    pub kill_open : OneStep (working made commits sessions) Kill (plain OfflineNow) (at_rest made commits)
+    kill_open = entry_done (working made commits sessions) Kill refl refl tt
 
-    pub online_open : refusal reading (working ring commits sessions) no_facts DbOnline ≡ Some (WrongState Online)
+    pub online_open : refusal reading (working made commits sessions) no_facts DbOnline ≡ Some (WrongState OnlineState)
     online_open = refl
 
     -- who keeps a lock from a session
     abbrev pub held_by : ℕ → Lock → Option Refusal
-    held_by session lock = option_map (λ other. Locked (record { 0 = other })) (holder (working ring commits sessions) session lock)
+    held_by session lock = option_map (λ other. Locked (record { 0 = other })) (holder (working made commits sessions) session lock)
 
-    held : (session : ℕ) (lock : Lock) (other : ℕ) → holder (working ring commits sessions) session lock ≡ Some other → held_by session lock ≡ Some (Locked (record { 0 = other }))
+    held : (session : ℕ) (lock : Lock) (other : ℕ) → holder (working made commits sessions) session lock ≡ Some other → held_by session lock ≡ Some (Locked (record { 0 = other }))
     held session lock other is = ap (option_map (λ other. Locked (record { 0 = other }))) is
 
-    free : (session : ℕ) (lock : Lock) → holder (working ring commits sessions) session lock ≡ None → held_by session lock ≡ None
+    free : (session : ℕ) (lock : Lock) → holder (working made commits sessions) session lock ≡ None → held_by session lock ≡ None
     free session lock is = ap (option_map (λ other. Locked (record { 0 = other }))) is
 
     -- a line that another session keeps off
-    kept_off : (line : Command) (other : ℕ) → refusal reading (working ring commits sessions) no_facts line ≡ Some (Locked (record { 0 = other }))
-        → OneStep (working ring commits sessions) line (refused (Locked (record { 0 = other }))) (working ring commits sessions)
+    kept_off : (line : Command) (other : ℕ) → refusal reading (working made commits sessions) no_facts line ≡ Some (Locked (record { 0 = other }))
+        → OneStep (working made commits sessions) line (refused (Locked (record { 0 = other }))) (working made commits sessions)
     kept_off line other is =
-        entry_refused (working ring commits sessions ∷ []) line (Locked (record { 0 = other }))
-        (All-cons (λ w. refusal reading w no_facts line ≡ Some (Locked (record { 0 = other }))) (working ring commits sessions) [] is (All-nil _))
+        entry_refused (working made commits sessions ∷ []) line (Locked (record { 0 = other }))
+        (All-cons (λ w. refusal reading w no_facts line ≡ Some (Locked (record { 0 = other }))) (working made commits sessions) [] is (All-nil _))
 
     only_first : (cause : Option Refusal) → first_cause (cause ∷ None ∷ None ∷ None ∷ []) ≡ cause
     only_first None = refl
@@ -141,34 +149,34 @@ module _ (reading : PageReading) where
     -- a read, and a scan
 
     get_refusal : (session : Session) (table : Table) (key : List ℕ)
-        → refusal reading (working ring commits sessions) no_facts (GetRow session table key) ≡ held_by session.0 (ShareKey (table.0, key))
+        → refusal reading (working made commits sessions) no_facts (GetRow session table key) ≡ held_by session.0 (ShareKey (table.0, key))
     get_refusal session table key = only_first (held_by session.0 (ShareKey (table.0, key)))
 
-    pub get_locked : (session : Session) (table : Table) (key : List ℕ) (other : ℕ) → holder (working ring commits sessions) session.0 (ShareKey (table.0, key)) ≡ Some other
-        → OneStep (working ring commits sessions) (GetRow session table key) (refused (Locked (record { 0 = other }))) (working ring commits sessions)
+    pub get_locked : (session : Session) (table : Table) (key : List ℕ) (other : ℕ) → holder (working made commits sessions) session.0 (ShareKey (table.0, key)) ≡ Some other
+        → OneStep (working made commits sessions) (GetRow session table key) (refused (Locked (record { 0 = other }))) (working made commits sessions)
     get_locked session table key other is = kept_off (GetRow session table key) other (get_refusal session table key ∙ held session.0 (ShareKey (table.0, key)) other is)
 
-    pub get_step : (session : Session) (table : Table) (key : List ℕ) → holder (working ring commits sessions) session.0 (ShareKey (table.0, key)) ≡ None
-        → OneStep (working ring commits sessions) (GetRow session table key)
+    pub get_step : (session : Session) (table : Table) (key : List ℕ) → holder (working made commits sessions) session.0 (ShareKey (table.0, key)) ≡ None
+        → OneStep (working made commits sessions) (GetRow session table key)
         (plain (row_reply (get (seen_by sessions session.0 (with_commits commits empty)) (table.0, key))))
-        (working ring commits (with_lock sessions session.0 (ShareKey (table.0, key))))
+        (working made commits (with_lock sessions session.0 (ShareKey (table.0, key))))
     get_step session table key is =
-        entry_done (working ring commits sessions) (GetRow session table key) (get_refusal session table key ∙ free session.0 (ShareKey (table.0, key)) is) refl tt
+        entry_done (working made commits sessions) (GetRow session table key) (get_refusal session table key ∙ free session.0 (ShareKey (table.0, key)) is) refl tt
 
     scan_refusal : (session : Session) (table : Table)
-        → refusal reading (working ring commits sessions) no_facts (ScanTable session table) ≡ held_by session.0 (ShareTable table.0)
+        → refusal reading (working made commits sessions) no_facts (ScanTable session table) ≡ held_by session.0 (ShareTable table.0)
     scan_refusal session table = only_first (held_by session.0 (ShareTable table.0))
 
-    pub scan_locked : (session : Session) (table : Table) (other : ℕ) → holder (working ring commits sessions) session.0 (ShareTable table.0) ≡ Some other
-        → OneStep (working ring commits sessions) (ScanTable session table) (refused (Locked (record { 0 = other }))) (working ring commits sessions)
+    pub scan_locked : (session : Session) (table : Table) (other : ℕ) → holder (working made commits sessions) session.0 (ShareTable table.0) ≡ Some other
+        → OneStep (working made commits sessions) (ScanTable session table) (refused (Locked (record { 0 = other }))) (working made commits sessions)
     scan_locked session table other is = kept_off (ScanTable session table) other (scan_refusal session table ∙ held session.0 (ShareTable table.0) other is)
 
-    pub scan_step : (session : Session) (table : Table) → holder (working ring commits sessions) session.0 (ShareTable table.0) ≡ None
-        → OneStep (working ring commits sessions) (ScanTable session table)
+    pub scan_step : (session : Session) (table : Table) → holder (working made commits sessions) session.0 (ShareTable table.0) ≡ None
+        → OneStep (working made commits sessions) (ScanTable session table)
         (record { items = rows_of (seen_by sessions session.0 (with_commits commits empty)) table.0; reply = ScanOpen })
-        (working ring commits (with_lock sessions session.0 (ShareTable table.0)))
+        (working made commits (with_lock sessions session.0 (ShareTable table.0)))
     scan_step session table is =
-        entry_done (working ring commits sessions) (ScanTable session table) (scan_refusal session table ∙ free session.0 (ShareTable table.0) is) refl tt
+        entry_done (working made commits sessions) (ScanTable session table) (scan_refusal session table ∙ free session.0 (ShareTable table.0) is) refl tt
 
     -- a change
 
@@ -177,7 +185,7 @@ module _ (reading : PageReading) where
     bytes_with session change = group_bytes (net_changes ((open_of sessions session).changes ++ change ∷ []))
 
     -- the changes of a session with one more
-    pub after_change : (session : ℕ) (change : Change) → (transaction (changed (working ring commits sessions) session change) session).changes ≡ (open_of sessions session).changes ++ change ∷ []
+    pub after_change : (session : ℕ) (change : Change) → (transaction (changed (working made commits sessions) session change) session).changes ≡ (open_of sessions session).changes ++ change ∷ []
     after_change session change =
         ap (λ (o : Option Transaction). (unwrap_or o no_transaction).changes)
         (get-insert nat_cmp_total sessions session (record { changes = (open_of sessions session).changes ++ change ∷ []; locks = ExclusiveKey (place_of change) ∷ (open_of sessions session).locks }) session
@@ -187,13 +195,13 @@ module _ (reading : PageReading) where
         itself n = unsigned_tied n n ∙ eq-eqb n n refl
 
     abbrev size_cause : ℕ → Option Refusal
-    size_cause bytes = refuse_if (nat_lt (min 1048576 (ring - 1)) bytes) (TransactionLarge bytes)
+    size_cause bytes = refuse_if (nat_lt (min 1048576 (made.ring - 1)) bytes) (TransactionLarge bytes)
 
-    too_many : (bytes : ℕ) → min 1048576 (ring - 1) < bytes → size_cause bytes ≡ Some (TransactionLarge bytes)
-    too_many bytes large = let t : nat_lt (min 1048576 (ring - 1)) bytes ≡ true = lt-ltb _ _ large in λ i. refuse_if (t i) (TransactionLarge bytes)
+    too_many : (bytes : ℕ) → min 1048576 (made.ring - 1) < bytes → size_cause bytes ≡ Some (TransactionLarge bytes)
+    too_many bytes large = let t : nat_lt (min 1048576 (made.ring - 1)) bytes ≡ true = lt-ltb _ _ large in λ i. refuse_if (t i) (TransactionLarge bytes)
 
-    not_too_many : (bytes : ℕ) → bytes ≤ min 1048576 (ring - 1) → size_cause bytes ≡ None
-    not_too_many bytes small = let t : nat_lt (min 1048576 (ring - 1)) bytes ≡ false = le-ltb _ _ small in λ i. refuse_if (t i) (TransactionLarge bytes)
+    not_too_many : (bytes : ℕ) → bytes ≤ min 1048576 (made.ring - 1) → size_cause bytes ≡ None
+    not_too_many bytes small = let t : nat_lt (min 1048576 (made.ring - 1)) bytes ≡ false = le-ltb _ _ small in λ i. refuse_if (t i) (TransactionLarge bytes)
 
     first_two : (lock size : Option Refusal) → lock ≡ None → first_cause (lock ∷ size ∷ None ∷ None ∷ []) ≡ size
     first_two lock size is = (λ i. first_cause (is i ∷ size ∷ None ∷ None ∷ [])) ∙ alone size
@@ -205,35 +213,35 @@ module _ (reading : PageReading) where
     first_lock : (lock size : Option Refusal) (cause : Refusal) → lock ≡ Some cause → first_cause (lock ∷ size ∷ None ∷ None ∷ []) ≡ Some cause
     first_lock lock size cause is i = first_cause (is i ∷ size ∷ None ∷ None ∷ [])
 
-    large : (line : Command) (bytes : ℕ) → refusal reading (working ring commits sessions) no_facts line ≡ Some (TransactionLarge bytes)
-        → OneStep (working ring commits sessions) line (refused (TransactionLarge bytes)) (working ring commits sessions)
+    large : (line : Command) (bytes : ℕ) → refusal reading (working made commits sessions) no_facts line ≡ Some (TransactionLarge bytes)
+        → OneStep (working made commits sessions) line (refused (TransactionLarge bytes)) (working made commits sessions)
     large line bytes is =
-        entry_refused (working ring commits sessions ∷ []) line (TransactionLarge bytes)
-        (All-cons (λ w. refusal reading w no_facts line ≡ Some (TransactionLarge bytes)) (working ring commits sessions) [] is (All-nil _))
+        entry_refused (working made commits sessions ∷ []) line (TransactionLarge bytes)
+        (All-cons (λ w. refusal reading w no_facts line ≡ Some (TransactionLarge bytes)) (working made commits sessions) [] is (All-nil _))
 
     module _ (session : Session) (table : Table) (key value : List ℕ) where
-      put_size : too_large reading (working ring commits sessions) no_facts (PutRow session table key value) ≡ size_cause (bytes_with session.0 (Put table key value))
+      put_size : too_large reading (working made commits sessions) no_facts (PutRow session table key value) ≡ size_cause (bytes_with session.0 (Put table key value))
       put_size i = size_cause (group_bytes (net_changes (after_change session.0 (Put table key value) i)))
 
-      pub put_locked : (other : ℕ) → holder (working ring commits sessions) session.0 (ExclusiveKey (table.0, key)) ≡ Some other
-          → OneStep (working ring commits sessions) (PutRow session table key value) (refused (Locked (record { 0 = other }))) (working ring commits sessions)
+      pub put_locked : (other : ℕ) → holder (working made commits sessions) session.0 (ExclusiveKey (table.0, key)) ≡ Some other
+          → OneStep (working made commits sessions) (PutRow session table key value) (refused (Locked (record { 0 = other }))) (working made commits sessions)
       put_locked other is =
           kept_off (PutRow session table key value) other
-          (first_lock (held_by session.0 (ExclusiveKey (table.0, key))) (too_large reading (working ring commits sessions) no_facts (PutRow session table key value)) (Locked (record { 0 = other })) (held session.0 (ExclusiveKey (table.0, key)) other is))
+          (first_lock (held_by session.0 (ExclusiveKey (table.0, key))) (too_large reading (working made commits sessions) no_facts (PutRow session table key value)) (Locked (record { 0 = other })) (held session.0 (ExclusiveKey (table.0, key)) other is))
 
-      module _ (is : holder (working ring commits sessions) session.0 (ExclusiveKey (table.0, key)) ≡ None) where
-        put_refusal : refusal reading (working ring commits sessions) no_facts (PutRow session table key value) ≡ size_cause (bytes_with session.0 (Put table key value))
+      module _ (is : holder (working made commits sessions) session.0 (ExclusiveKey (table.0, key)) ≡ None) where
+        put_refusal : refusal reading (working made commits sessions) no_facts (PutRow session table key value) ≡ size_cause (bytes_with session.0 (Put table key value))
         put_refusal =
-            first_two (held_by session.0 (ExclusiveKey (table.0, key))) (too_large reading (working ring commits sessions) no_facts (PutRow session table key value)) (free session.0 (ExclusiveKey (table.0, key)) is)
+            first_two (held_by session.0 (ExclusiveKey (table.0, key))) (too_large reading (working made commits sessions) no_facts (PutRow session table key value)) (free session.0 (ExclusiveKey (table.0, key)) is)
             ∙ put_size
 
-        pub put_large : min 1048576 (ring - 1) < bytes_with session.0 (Put table key value)
-            → OneStep (working ring commits sessions) (PutRow session table key value) (refused (TransactionLarge (bytes_with session.0 (Put table key value)))) (working ring commits sessions)
+        pub put_large : min 1048576 (made.ring - 1) < bytes_with session.0 (Put table key value)
+            → OneStep (working made commits sessions) (PutRow session table key value) (refused (TransactionLarge (bytes_with session.0 (Put table key value)))) (working made commits sessions)
         put_large too = large (PutRow session table key value) (bytes_with session.0 (Put table key value)) (put_refusal ∙ too_many (bytes_with session.0 (Put table key value)) too)
 
-        pub put_step : bytes_with session.0 (Put table key value) ≤ min 1048576 (ring - 1)
-            → OneStep (working ring commits sessions) (PutRow session table key value) (plain PutDone) (working ring commits (with_one_change sessions session.0 (Put table key value)))
-        put_step small = entry_done (working ring commits sessions) (PutRow session table key value) (put_refusal ∙ not_too_many (bytes_with session.0 (Put table key value)) small) refl tt
+        pub put_step : bytes_with session.0 (Put table key value) ≤ min 1048576 (made.ring - 1)
+            → OneStep (working made commits sessions) (PutRow session table key value) (plain PutDone) (working made commits (with_one_change sessions session.0 (Put table key value)))
+        put_step small = entry_done (working made commits sessions) (PutRow session table key value) (put_refusal ∙ not_too_many (bytes_with session.0 (Put table key value)) small) refl tt
 
     module _ (session : Session) (table : Table) (key : List ℕ) where
       -- whether the session sees a row there
@@ -242,16 +250,16 @@ module _ (reading : PageReading) where
 
       -- what a deletion gives, by whether there is a row
       abbrev del_done : Bool → Answer × World
-      del_done true = (plain DelDone, changed (working ring commits sessions) session.0 (Del table key))
-      del_done false = (plain NoRow, locked (working ring commits sessions) session.0 (ExclusiveKey (table.0, key)))
+      del_done true = (plain DelDone, changed (working made commits sessions) session.0 (Del table key))
+      del_done false = (plain NoRow, locked (working made commits sessions) session.0 (ExclusiveKey (table.0, key)))
 
       del_done_is : (row : Bool) → contains_key (seen_by sessions session.0 (with_commits commits empty)) (table.0, key) ≡ row
-          → done reading (working ring commits sessions) no_facts (DelRow session table key) ≡ del_done row
+          → done reading (working made commits sessions) no_facts (DelRow session table key) ≡ del_done row
       del_done_is row is =
-          (λ i. if is i then (plain DelDone, changed (working ring commits sessions) session.0 (Del table key)) else (plain NoRow, locked (working ring commits sessions) session.0 (ExclusiveKey (table.0, key))))
+          (λ i. if is i then (plain DelDone, changed (working made commits sessions) session.0 (Del table key)) else (plain NoRow, locked (working made commits sessions) session.0 (ExclusiveKey (table.0, key))))
           ∙ by_row row
         where
-          by_row : (b : Bool) → (if b then (plain DelDone, changed (working ring commits sessions) session.0 (Del table key)) else (plain NoRow, locked (working ring commits sessions) session.0 (ExclusiveKey (table.0, key)))) ≡ del_done b
+          by_row : (b : Bool) → (if b then (plain DelDone, changed (working made commits sessions) session.0 (Del table key)) else (plain NoRow, locked (working made commits sessions) session.0 (ExclusiveKey (table.0, key)))) ≡ del_done b
           by_row true = refl
           by_row false = refl
 
@@ -261,187 +269,208 @@ module _ (reading : PageReading) where
 
       -- the answer and the world, by a test
       abbrev del_pair : Bool → Answer × World
-      del_pair row = if row then (plain DelDone, changed (working ring commits sessions) session.0 (Del table key)) else (plain NoRow, locked (working ring commits sessions) session.0 (ExclusiveKey (table.0, key)))
+      del_pair row = if row then (plain DelDone, changed (working made commits sessions) session.0 (Del table key)) else (plain NoRow, locked (working made commits sessions) session.0 (ExclusiveKey (table.0, key)))
 
       -- the size of the changes, by a test
       abbrev del_size_by : Bool → Option Refusal
       del_size_by row = option_and_then (λ s. size_cause (group_bytes (net_changes (transaction (del_pair row).1 s).changes))) (if row then Some session.0 else None)
 
       del_size_is : (row : Bool) → contains_key (seen_by sessions session.0 (with_commits commits empty)) (table.0, key) ≡ row
-          → too_large reading (working ring commits sessions) no_facts (DelRow session table key) ≡ del_size row
+          → too_large reading (working made commits sessions) no_facts (DelRow session table key) ≡ del_size row
       del_size_is row is = (λ i. del_size_by (is i)) ∙ by_row row
         where
           by_row : (b : Bool) → del_size_by b ≡ del_size b
           by_row true = λ i. size_cause (group_bytes (net_changes (after_change session.0 (Del table key) i)))
           by_row false = refl
 
-      pub del_locked : (other : ℕ) → holder (working ring commits sessions) session.0 (ExclusiveKey (table.0, key)) ≡ Some other
-          → OneStep (working ring commits sessions) (DelRow session table key) (refused (Locked (record { 0 = other }))) (working ring commits sessions)
+      pub del_locked : (other : ℕ) → holder (working made commits sessions) session.0 (ExclusiveKey (table.0, key)) ≡ Some other
+          → OneStep (working made commits sessions) (DelRow session table key) (refused (Locked (record { 0 = other }))) (working made commits sessions)
       del_locked other is =
           kept_off (DelRow session table key) other
-          (first_lock (held_by session.0 (ExclusiveKey (table.0, key))) (too_large reading (working ring commits sessions) no_facts (DelRow session table key)) (Locked (record { 0 = other })) (held session.0 (ExclusiveKey (table.0, key)) other is))
+          (first_lock (held_by session.0 (ExclusiveKey (table.0, key))) (too_large reading (working made commits sessions) no_facts (DelRow session table key)) (Locked (record { 0 = other })) (held session.0 (ExclusiveKey (table.0, key)) other is))
 
-      module _ (is : holder (working ring commits sessions) session.0 (ExclusiveKey (table.0, key)) ≡ None) where
+      module _ (is : holder (working made commits sessions) session.0 (ExclusiveKey (table.0, key)) ≡ None) where
         del_refusal : (row : Bool) → contains_key (seen_by sessions session.0 (with_commits commits empty)) (table.0, key) ≡ row
-            → refusal reading (working ring commits sessions) no_facts (DelRow session table key) ≡ del_size row
+            → refusal reading (working made commits sessions) no_facts (DelRow session table key) ≡ del_size row
         del_refusal row seen =
-            first_two (held_by session.0 (ExclusiveKey (table.0, key))) (too_large reading (working ring commits sessions) no_facts (DelRow session table key)) (free session.0 (ExclusiveKey (table.0, key)) is)
+            first_two (held_by session.0 (ExclusiveKey (table.0, key))) (too_large reading (working made commits sessions) no_facts (DelRow session table key)) (free session.0 (ExclusiveKey (table.0, key)) is)
             ∙ del_size_is row seen
 
         del_entry : (row : Bool) → contains_key (seen_by sessions session.0 (with_commits commits empty)) (table.0, key) ≡ row → del_size row ≡ None
-            → OneStep (working ring commits sessions) (DelRow session table key) (del_done row).0 (del_done row).1
+            → OneStep (working made commits sessions) (DelRow session table key) (del_done row).0 (del_done row).1
         del_entry row seen small =
-            subst (λ (p : Answer × World). OneStep (working ring commits sessions) (DelRow session table key) p.0 p.1) (del_done_is row seen)
-            (entry_done (working ring commits sessions) (DelRow session table key) (del_refusal row seen ∙ small) refl tt)
+            subst (λ (p : Answer × World). OneStep (working made commits sessions) (DelRow session table key) p.0 p.1) (del_done_is row seen)
+            (entry_done (working made commits sessions) (DelRow session table key) (del_refusal row seen ∙ small) refl tt)
 
-        pub del_large : contains_key (seen_by sessions session.0 (with_commits commits empty)) (table.0, key) ≡ true → min 1048576 (ring - 1) < bytes_with session.0 (Del table key)
-            → OneStep (working ring commits sessions) (DelRow session table key) (refused (TransactionLarge (bytes_with session.0 (Del table key)))) (working ring commits sessions)
+        pub del_large : contains_key (seen_by sessions session.0 (with_commits commits empty)) (table.0, key) ≡ true → min 1048576 (made.ring - 1) < bytes_with session.0 (Del table key)
+            → OneStep (working made commits sessions) (DelRow session table key) (refused (TransactionLarge (bytes_with session.0 (Del table key)))) (working made commits sessions)
         del_large seen too = large (DelRow session table key) (bytes_with session.0 (Del table key)) (del_refusal true seen ∙ too_many (bytes_with session.0 (Del table key)) too)
 
-        pub del_step : contains_key (seen_by sessions session.0 (with_commits commits empty)) (table.0, key) ≡ true → bytes_with session.0 (Del table key) ≤ min 1048576 (ring - 1)
-            → OneStep (working ring commits sessions) (DelRow session table key) (plain DelDone) (working ring commits (with_one_change sessions session.0 (Del table key)))
+        pub del_step : contains_key (seen_by sessions session.0 (with_commits commits empty)) (table.0, key) ≡ true → bytes_with session.0 (Del table key) ≤ min 1048576 (made.ring - 1)
+            → OneStep (working made commits sessions) (DelRow session table key) (plain DelDone) (working made commits (with_one_change sessions session.0 (Del table key)))
         del_step seen small = del_entry true seen (not_too_many (bytes_with session.0 (Del table key)) small)
 
         pub del_none : contains_key (seen_by sessions session.0 (with_commits commits empty)) (table.0, key) ≡ false
-            → OneStep (working ring commits sessions) (DelRow session table key) (plain NoRow) (working ring commits (with_lock sessions session.0 (ExclusiveKey (table.0, key))))
+            → OneStep (working made commits sessions) (DelRow session table key) (plain NoRow) (working made commits (with_lock sessions session.0 (ExclusiveKey (table.0, key))))
         del_none seen = del_entry false seen refl
 
     -- the end of a transaction
 
-    pub rollback_step : (session : Session) → OneStep (working ring commits sessions) (RollbackWork session) (plain RolledBack) (working ring commits (remove sessions session.0))
-    rollback_step session = entry_done (working ring commits sessions) (RollbackWork session) refl refl tt
+    pub rollback_step : (session : Session) → OneStep (working made commits sessions) (RollbackWork session) (plain RolledBack) (working made commits (remove sessions session.0))
+    rollback_step session = entry_done (working made commits sessions) (RollbackWork session) refl refl tt
 
     module _ (session : Session) where
       -- the changes that are committed
       abbrev pub net : List Change
       net = net_changes (open_of sessions session.0).changes
 
-      commit_refusal : (some : Bool) → has_changes (working ring commits sessions) session.0 ≡ some
-          → refusal reading (working ring commits sessions) no_facts (CommitWork session)
-          ≡ refuse_if (some && nat_lt ring (log_bytes commits + group_bytes net + 1)) (LogFull (log_bytes commits) ring)
-      commit_refusal some is = alone (log_full (working ring commits sessions) (CommitWork session)) ∙ cause
+      commit_refusal : (some : Bool) → has_changes (working made commits sessions) session.0 ≡ some
+          → refusal reading (working made commits sessions) no_facts (CommitWork session)
+          ≡ refuse_if (some && nat_lt made.ring (log_bytes commits + group_bytes net + 1)) (LogFull (log_bytes commits) made.ring)
+      commit_refusal some is = alone (log_full (working made commits sessions) (CommitWork session)) ∙ cause
         where
           alone : (cause : Option Refusal) → first_cause (cause ∷ []) ≡ cause
           alone None = refl
           alone (Some cause) = refl
 
-          cause : log_full (working ring commits sessions) (CommitWork session) ≡ refuse_if (some && nat_lt ring (log_bytes commits + group_bytes net + 1)) (LogFull (log_bytes commits) ring)
-          cause i = refuse_if (is i && nat_lt ring (log_bytes commits + group_bytes net + 1)) (LogFull (log_bytes commits) ring)
+          cause : log_full (working made commits sessions) (CommitWork session) ≡ refuse_if (some && nat_lt made.ring (log_bytes commits + group_bytes net + 1)) (LogFull (log_bytes commits) made.ring)
+          cause i = refuse_if (is i && nat_lt made.ring (log_bytes commits + group_bytes net + 1)) (LogFull (log_bytes commits) made.ring)
 
-      has_some : (some : Bool) → (length (open_of sessions session.0).changes == 0) ≡ some → has_changes (working ring commits sessions) session.0 ≡ not some
+      has_some : (some : Bool) → (length (open_of sessions session.0).changes == 0) ≡ some → has_changes (working made commits sessions) session.0 ≡ not some
       has_some some is = ap not is
 
       -- of nothing
-      pub commit_nothing : (length (open_of sessions session.0).changes == 0) ≡ true → OneStep (working ring commits sessions) (CommitWork session) (plain NothingToCommit) (working ring commits (remove sessions session.0))
+      pub commit_nothing : (length (open_of sessions session.0).changes == 0) ≡ true → OneStep (working made commits sessions) (CommitWork session) (plain NothingToCommit) (working made commits (remove sessions session.0))
       commit_nothing none =
-          subst (λ (p : Answer × World). OneStep (working ring commits sessions) (CommitWork session) p.0 p.1) result
-          (entry_done (working ring commits sessions) (CommitWork session) (commit_refusal false (has_some true none)) refl tt)
+          subst (λ (p : Answer × World). OneStep (working made commits sessions) (CommitWork session) p.0 p.1) result
+          (entry_done (working made commits sessions) (CommitWork session) (commit_refusal false (has_some true none)) refl tt)
         where
-          result : done reading (working ring commits sessions) no_facts (CommitWork session) ≡ (plain NothingToCommit, working ring commits (remove sessions session.0))
-          result i = if has_some true none i then (plain (Committed (0 + length commits + 1)), committed_by (working ring commits sessions) session.0) else (plain NothingToCommit, without_transaction (working ring commits sessions) session.0)
+          result : done reading (working made commits sessions) no_facts (CommitWork session) ≡ (plain NothingToCommit, working made commits (remove sessions session.0))
+          result i = if has_some true none i then (plain (Committed (0 + length commits + 1)), committed_by (working made commits sessions) session.0) else (plain NothingToCommit, without_transaction (working made commits sessions) session.0)
 
       -- of something
       module _ (some : (length (open_of sessions session.0).changes == 0) ≡ false) where
         abbrev pub next_commits : List Commit
         next_commits = commits ++ record { changes = net_changes (open_of sessions session.0).changes } ∷ []
 
-        pub commit_full : ring < log_bytes commits + group_bytes net + 1 → OneStep (working ring commits sessions) (CommitWork session) (refused (LogFull (log_bytes commits) ring)) (working ring commits sessions)
+        pub commit_full : made.ring < log_bytes commits + group_bytes net + 1 → OneStep (working made commits sessions) (CommitWork session) (refused (LogFull (log_bytes commits) made.ring)) (working made commits sessions)
         commit_full full =
-            entry_refused (working ring commits sessions ∷ []) (CommitWork session) (LogFull (log_bytes commits) ring)
-            (All-cons (λ w. refusal reading w no_facts (CommitWork session) ≡ Some (LogFull (log_bytes commits) ring)) (working ring commits sessions) [] (commit_refusal true (has_some false some) ∙ yes_cause) (All-nil _))
+            entry_refused (working made commits sessions ∷ []) (CommitWork session) (LogFull (log_bytes commits) made.ring)
+            (All-cons (λ w. refusal reading w no_facts (CommitWork session) ≡ Some (LogFull (log_bytes commits) made.ring)) (working made commits sessions) [] (commit_refusal true (has_some false some) ∙ yes_cause) (All-nil _))
           where
-            yes_cause : refuse_if (nat_lt ring (log_bytes commits + group_bytes net + 1)) (LogFull (log_bytes commits) ring) ≡ Some (LogFull (log_bytes commits) ring)
-            yes_cause = let t : nat_lt ring (log_bytes commits + group_bytes net + 1) ≡ true = lt-ltb _ _ full in λ i. refuse_if (t i) (LogFull (log_bytes commits) ring)
+            yes_cause : refuse_if (nat_lt made.ring (log_bytes commits + group_bytes net + 1)) (LogFull (log_bytes commits) made.ring) ≡ Some (LogFull (log_bytes commits) made.ring)
+            yes_cause = let t : nat_lt made.ring (log_bytes commits + group_bytes net + 1) ≡ true = lt-ltb _ _ full in λ i. refuse_if (t i) (LogFull (log_bytes commits) made.ring)
 
-        module _ (room : log_bytes commits + group_bytes net + 1 ≤ ring) where
-          commit_admitted : refusal reading (working ring commits sessions) no_facts (CommitWork session) ≡ None
+        module _ (room : log_bytes commits + group_bytes net + 1 ≤ made.ring) where
+          commit_admitted : refusal reading (working made commits sessions) no_facts (CommitWork session) ≡ None
           commit_admitted = commit_refusal true (has_some false some) ∙ no_cause
             where
-              no_cause : refuse_if (nat_lt ring (log_bytes commits + group_bytes net + 1)) (LogFull (log_bytes commits) ring) ≡ None
-              no_cause = let t : nat_lt ring (log_bytes commits + group_bytes net + 1) ≡ false = le-ltb _ _ room in λ i. refuse_if (t i) (LogFull (log_bytes commits) ring)
+              no_cause : refuse_if (nat_lt made.ring (log_bytes commits + group_bytes net + 1)) (LogFull (log_bytes commits) made.ring) ≡ None
+              no_cause = let t : nat_lt made.ring (log_bytes commits + group_bytes net + 1) ≡ false = le-ltb _ _ room in λ i. refuse_if (t i) (LogFull (log_bytes commits) made.ring)
 
-          commit_result : done reading (working ring commits sessions) no_facts (CommitWork session) ≡ (plain (Committed (0 + length commits + 1)), working ring next_commits (remove sessions session.0))
-          commit_result i = if has_some false some i then (plain (Committed (0 + length commits + 1)), committed_by (working ring commits sessions) session.0) else (plain NothingToCommit, without_transaction (working ring commits sessions) session.0)
+          commit_result : done reading (working made commits sessions) no_facts (CommitWork session) ≡ (plain (Committed (0 + length commits + 1)), working made next_commits (remove sessions session.0))
+          commit_result i = if has_some false some i then (plain (Committed (0 + length commits + 1)), committed_by (working made commits sessions) session.0) else (plain NothingToCommit, without_transaction (working made commits sessions) session.0)
 
-          pub commit_step : OneStep (working ring commits sessions) (CommitWork session) (plain (Committed (0 + length commits + 1))) (working ring next_commits (remove sessions session.0))
+          pub commit_step : OneStep (working made commits sessions) (CommitWork session) (plain (Committed (0 + length commits + 1))) (working made next_commits (remove sessions session.0))
           commit_step =
-              subst (λ (p : Answer × World). OneStep (working ring commits sessions) (CommitWork session) p.0 p.1) commit_result
-              (entry_done (working ring commits sessions) (CommitWork session) commit_admitted refl tt)
+              subst (λ (p : Answer × World). OneStep (working made commits sessions) (CommitWork session) p.0 p.1) commit_result
+              (entry_done (working made commits sessions) (CommitWork session) commit_admitted refl tt)
 
           -- a stop inside it leaves the commits without it or with it
-          pub commit_outcomes : AreOutcomes reading (working ring commits sessions) (Some (CommitWork session)) (at_rest ring commits ∷ at_rest ring next_commits ∷ [])
+          pub commit_outcomes : AreOutcomes reading (working made commits sessions) (Some (CommitWork session)) (at_rest made commits ∷ at_rest made next_commits ∷ [])
           commit_outcomes = (
             Some no_facts,
             (ap is_some commit_admitted, tt),
-            (λ i. at_rest ring commits ∷ off (sym commit_result i).1 ∷ []),
+            (λ i. at_rest made commits ∷ off (sym commit_result i).1 ∷ []),
           )
 
-          pub commit_failed : Entry reading (working ring commits sessions ∷ []) (Some (CommitWork session)) (refused DeviceFailed) (at_rest ring commits ∷ at_rest ring next_commits ∷ [])
+          pub commit_failed : Entry reading (working made commits sessions ∷ []) (Some (CommitWork session)) (refused DeviceFailed) (at_rest made commits ∷ at_rest made next_commits ∷ [])
           commit_failed =
-              Failed (working ring commits sessions) [] (at_rest ring commits ∷ at_rest ring next_commits ∷ [], [], refl, commit_outcomes, refl) (0, omega arith, refl)
-              (no_facts, (done reading (working ring commits sessions) no_facts (CommitWork session)).0.items, refl)
+              Failed (working made commits sessions) [] (at_rest made commits ∷ at_rest made next_commits ∷ [], [], refl, commit_outcomes, refl) (0, omega arith, refl)
+              (no_facts, (done reading (working made commits sessions) no_facts (CommitWork session)).0.items, refl)
 
   -- A restart, in any worlds that are at rest
 
   abbrev pub AtRest : World → Type 0
   AtRest w = off w ≡ w
 
-  pub entry_online : (ring : ℕ) (commits : List Commit) (ws : List World) → Contains ws (at_rest ring commits)
-      → Entry reading ws (Some DbOnline) (plain (OnlineAt (0 + length commits))) (working ring commits empty ∷ [])
-  entry_online ring commits [] there = absurd (omega (arith, there.1))
-  entry_online ring commits (x ∷ []) (zero, inside, is) = subst (λ (u : World). Entry reading (u ∷ []) (Some DbOnline) (plain (OnlineAt (0 + length commits))) (working ring commits empty ∷ [])) (sym is) (entry_done (at_rest ring commits) DbOnline refl refl tt)
-  entry_online ring commits (x ∷ []) (suc k, inside, is) = absurd (omega arith)
-  entry_online ring commits (x ∷ y ∷ ws) there =
-      FoundOut (at_rest ring commits) (working ring commits empty) refl (omega arith) there (no_facts, CommandStep-done reading (at_rest ring commits) no_facts DbOnline refl refl tt) (λ is. let e : OnlineAt (0 + length commits) ≡ Refused DeviceFailed = ap (λ (a : Answer). a.reply) is in cc) (λ is. let e : OnlineAt (0 + length commits) ≡ Refused MemoryWanting = ap (λ (a : Answer). a.reply) is in cc)
+  opens_alone : (access : Access) (made : Made) (commits : List Commit) → OneStep (at_rest made commits) (opens access) (plain (opened_reply access (0 + length commits))) (opened_world access made commits)
+  opens_alone Admin made commits = entry_done (at_rest made commits) DbAdmin refl refl tt
+  opens_alone Online made commits = entry_done (at_rest made commits) DbOnline refl refl tt
 
-  may_starve : (w : World) → AtRest w → IsTrue (may_want_memory w (Some DbOnline))
-  may_starve w rest = ap (λ (v : World). may_want_memory v (Some DbOnline)) (sym rest)
+  opens_found : (access : Access) (made : Made) (commits : List Commit) (ws : List World) → 1 < length ws → Contains ws (at_rest made commits)
+      → Entry reading ws (Some (opens access)) (plain (opened_reply access (0 + length commits))) (opened_world access made commits ∷ [])
+  opens_found Admin made commits ws many there =
+      FoundOut (at_rest made commits) (in_admin made commits) refl many there (no_facts, CommandStep-done reading (at_rest made commits) no_facts DbAdmin refl refl tt) (λ is. let e : AdminAt (0 + length commits) ≡ Refused DeviceFailed = ap (λ (a : Answer). a.reply) is in cc) (λ is. let e : AdminAt (0 + length commits) ≡ Refused MemoryWanting = ap (λ (a : Answer). a.reply) is in cc)
+  opens_found Online made commits ws many there =
+      FoundOut (at_rest made commits) (working made commits empty) refl many there (no_facts, CommandStep-done reading (at_rest made commits) no_facts DbOnline refl refl tt) (λ is. let e : OnlineAt (0 + length commits) ≡ Refused DeviceFailed = ap (λ (a : Answer). a.reply) is in cc) (λ is. let e : OnlineAt (0 + length commits) ≡ Refused MemoryWanting = ap (λ (a : Answer). a.reply) is in cc)
 
-  all_starve : (ws vs : List World) → All AtRest ws → AllZip (λ w w'. IsTrue (may_want_memory w (Some DbOnline)) × (w' ≡ w)) ws ws
-  all_starve [] vs all = tt
-  all_starve (w ∷ ws) vs all = ((may_starve w (All-head AtRest w ws all), refl), all_starve ws vs (All-tail AtRest w ws all))
+  pub entry_opened : (access : Access) (made : Made) (commits : List Commit) (ws : List World) → Contains ws (at_rest made commits)
+      → Entry reading ws (Some (opens access)) (plain (opened_reply access (0 + length commits))) (opened_world access made commits ∷ [])
+  entry_opened access made commits [] there = absurd (omega (arith, there.1))
+  entry_opened access made commits (x ∷ []) (zero, inside, is) = subst (λ (u : World). Entry reading (u ∷ []) (Some (opens access)) (plain (opened_reply access (0 + length commits))) (opened_world access made commits ∷ [])) (sym is) (opens_alone access made commits)
+  entry_opened access made commits (x ∷ []) (suc k, inside, is) = absurd (omega arith)
+  entry_opened access made commits (x ∷ y ∷ ws) there = opens_found access made commits (x ∷ y ∷ ws) (omega arith) there
 
-  pub online_starved : (ws : List World) → All AtRest ws → Entry reading ws (Some DbOnline) (refused MemoryWanting) ws
-  online_starved ws all = Starved (all_starve ws ws all)
+  may_starve : (access : Access) (w : World) → AtRest w → IsTrue (may_want_memory w (Some (opens access)))
+  may_starve Admin w rest = ap (λ (v : World). may_want_memory v (Some DbAdmin)) (sym rest)
+  may_starve Online w rest = ap (λ (v : World). may_want_memory v (Some DbOnline)) (sym rest)
+
+  all_starve : (access : Access) (ws : List World) → All AtRest ws → AllZip (λ w w'. IsTrue (may_want_memory w (Some (opens access))) × (w' ≡ w)) ws ws
+  all_starve access [] all = tt
+  all_starve access (w ∷ ws) all = ((may_starve access w (All-head AtRest w ws all), refl), all_starve access ws (All-tail AtRest w ws all))
+
+  pub opening_starves : (access : Access) (ws : List World) → All AtRest ws → Entry reading ws (Some (opens access)) (refused MemoryWanting) ws
+  opening_starves access ws all = Starved (all_starve access ws all)
 
   -- what a stop of a restart may leave of a world: among others the world itself
-  record Left (w : World) : Type 0 where
+  record Left (access : Access) (w : World) : Type 0 where
     these : List World
-    are : AreOutcomes reading w (Some DbOnline) these
+    are : AreOutcomes reading w (Some (opens access)) these
     itself : Contains these (off w)
     rest : All AtRest these
 
-  left_of : (w : World) (cause : Option Refusal) → refusal reading w no_facts DbOnline ≡ cause → Left w
-  left_of w (Some cause) is = record {
+  -- nothing but the world
+  two_left : (w : World) → Contains (off w ∷ off w ∷ []) (off w) × All AtRest (off w ∷ off w ∷ [])
+  two_left w = ((0, omega arith, refl), All-cons AtRest (off w) (off w ∷ []) refl (All-cons AtRest (off w) [] refl (All-nil AtRest)))
+
+  some_is : (o : Option Refusal) (cause : Refusal) → o ≡ Some cause → IsSome o
+  some_is o cause is = ap is_some is
+
+  none_is : (o : Option Refusal) → o ≡ None → IsNone o
+  none_is o is = ap is_some is
+
+  left_of : (access : Access) (w : World) (cause : Option Refusal) → refusal reading w no_facts (opens access) ≡ cause → Left access w
+  left_of access w (Some cause) is = record {
     these = off w ∷ [];
-    are = (None, inr (no_facts, some_is (refusal reading w no_facts DbOnline) cause is), refl);
+    are = (None, inr (no_facts, some_is (refusal reading w no_facts (opens access)) cause is), refl);
     itself = (0, omega arith, refl);
     rest = All-cons AtRest (off w) [] refl (All-nil AtRest);
   }
-    where
-      some_is : (o : Option Refusal) (cause : Refusal) → o ≡ Some cause → IsSome o
-      some_is o cause is = ap is_some is
-  left_of w None is = record {
+  left_of Admin w None is = record {
+    these = off w ∷ off w ∷ [];
+    are = (Some no_facts, (none_is (refusal reading w no_facts DbAdmin) is, tt), refl);
+    itself = (two_left w).0;
+    rest = (two_left w).1;
+  }
+  left_of Online w None is = record {
     these = off w ∷ off w ∷ [];
     are = (Some no_facts, (none_is (refusal reading w no_facts DbOnline) is, tt), refl);
-    itself = (0, omega arith, refl);
-    rest = All-cons AtRest (off w) (off w ∷ []) refl (All-cons AtRest (off w) [] refl (All-nil AtRest));
+    itself = (two_left w).0;
+    rest = (two_left w).1;
   }
-    where
-      none_is : (o : Option Refusal) → o ≡ None → IsNone o
-      none_is o is = ap is_some is
 
-  record AllLeft (ws : List World) : Type 0 where
+  record AllLeft (access : Access) (ws : List World) : Type 0 where
     new : List World
-    are : AreAllOutcomes reading ws (Some DbOnline) new
+    are : AreAllOutcomes reading ws (Some (opens access)) new
     each : (w : World) → Contains ws w → Contains new (off w)
     rest : All AtRest new
 
-  all_left : (ws : List World) → AllLeft ws
-  all_left [] = record { new = []; are = refl; each = λ w there. absurd (omega (arith, there.1)); rest = All-nil AtRest }
-  all_left (w ∷ ws) =
-      let one = left_of w (refusal reading w no_facts DbOnline) refl in
-      let more = all_left ws in
+  all_left : (access : Access) (ws : List World) → AllLeft access ws
+  all_left access [] = record { new = []; are = refl; each = λ w there. absurd (omega (arith, there.1)); rest = All-nil AtRest }
+  all_left access (w ∷ ws) =
+      let one = left_of access w (refusal reading w no_facts (opens access)) refl in
+      let more = all_left access ws in
       record {
         new = one.these ++ more.new;
         are = (one.these, more.new, refl, one.are, more.are);
@@ -449,12 +478,72 @@ module _ (reading : PageReading) where
         rest = All-append AtRest one.these more.new one.rest more.rest;
       }
     where
-      by_place : (u w : World) (ws : List World) (one : Left w) (more : AllLeft ws) → Contains (w ∷ ws) u → Contains (one.these ++ more.new) (off u)
+      by_place : (u w : World) (ws : List World) (one : Left access w) (more : AllLeft access ws) → Contains (w ∷ ws) u → Contains (one.these ++ more.new) (off u)
       by_place u w ws one more (zero, inside, is) = subst (λ (v : World). Contains (one.these ++ more.new) (off v)) is (Contains-append_left one.these more.new (off w) one.itself)
       by_place u w ws one more (suc k, inside, is) = Contains-append_right one.these more.new (off u) (more.each u (k, omega arith, is))
 
-  pub online_failed : (ws : List World) (w : World) → Contains ws w
-      → (new : List World) × Entry reading ws (Some DbOnline) (refused DeviceFailed) new × ((u : World) → Contains ws u → Contains new (off u)) × All AtRest new
-  online_failed ws w there =
-      let left = all_left ws in
-      (left.new, Failed w [] left.are there (no_facts, (done reading w no_facts DbOnline).0.items, refl), left.each, left.rest)
+  -- an opening says no items before it fails
+  none_said : (access : Access) (w : World) → MayHaveSaid reading w (Some (opens access)) []
+  none_said Admin w = (no_facts, (done reading w no_facts DbAdmin).0.items, refl)
+  none_said Online w = (no_facts, (done reading w no_facts DbOnline).0.items, refl)
+
+  pub opening_fails : (access : Access) (ws : List World) (w : World) → Contains ws w
+      → (new : List World) × Entry reading ws (Some (opens access)) (refused DeviceFailed) new × ((u : World) → Contains ws u → Contains new (off u)) × All AtRest new
+  opening_fails access ws w there =
+      let left = all_left access ws in
+      (left.new, Failed w [] left.are there (none_said access w), left.each, left.rest)
+
+  -- The states
+
+  -- a line that a state does not admit
+  pub refusal_state : (w : World) (line : Command) (state : State) → is_built line ≡ true → list_any (same_state state) (states_of line) ≡ false → w.state ≡ state
+      → refusal reading w no_facts line ≡ Some (WrongState state)
+  refusal_state w line state built not_admitted is =
+      ap (λ (b : Bool). if b then refusal_with reading w no_facts rows_in_memory line else Some Syntax) built
+      ∙ first_state _ w.state is
+    where
+      cause_is : (s : State) → s ≡ state → refuse_if (not (list_any (same_state s) (states_of line))) (WrongState s) ≡ Some (WrongState state)
+      cause_is s is =
+          ap (λ (v : State). refuse_if (not (list_any (same_state v) (states_of line))) (WrongState v)) is
+          ∙ ap (λ (b : Bool). refuse_if (not b) (WrongState state)) not_admitted
+
+      first_state : (rest : List (Option Refusal)) (s : State) → s ≡ state → first_cause (refuse_if (not (list_any (same_state s) (states_of line))) (WrongState s) ∷ rest) ≡ Some (WrongState state)
+      first_state rest s is = ap (λ (o : Option Refusal). first_cause (o ∷ rest)) (cause_is s is)
+
+  pub entry_state : (ws : List World) (line : Command) (state : State) → is_built line ≡ true → list_any (same_state state) (states_of line) ≡ false → All (λ w. w.state ≡ state) ws
+      → Entry reading ws (Some line) (refused (WrongState state)) ws
+  entry_state ws line state built not_admitted all = entry_refused ws line (WrongState state) (λ k d inside. refusal_state _ line state built not_admitted (all k d inside))
+
+  -- the state is told
+  steps_told : (ws : List World) (state : State) → All (λ w. w.state ≡ state) ws → AllZip (λ w w'. Step reading w (Some DbState) (plain (StateIs state)) w') ws ws
+  steps_told [] state all = tt
+  steps_told (w ∷ ws) state all = (
+    subst (λ (s : State). Step reading w (Some DbState) (plain (StateIs s)) w) (All-head (λ w. w.state ≡ state) w ws all) (no_facts, CommandStep-done reading w no_facts DbState (admitted w.state) refl tt),
+    steps_told ws state (All-tail (λ w. w.state ≡ state) w ws all),
+  )
+    where
+      admitted : (s : State) → refusal reading (record w { state = s }) no_facts DbState ≡ None
+      admitted Offline = refl
+      admitted AdminState = refl
+      admitted OnlineState = refl
+
+  pub entry_told : (ws : List World) (state : State) → All (λ w. w.state ≡ state) ws → Entry reading ws (Some DbState) (plain (StateIs state)) ws
+  entry_told ws state all = Stepped (steps_told ws state all)
+
+  module _ (made : Made) (commits : List Commit) where
+    -- from the sessions to the administrator, and back
+    pub admin_step : (sessions : FinMap nat_cmp Transaction) → OneStep (working made commits sessions) DbAdmin (plain (AdminAt (0 + length commits))) (in_admin made commits)
+    admin_step sessions = entry_done (working made commits sessions) DbAdmin refl refl tt
+
+    pub online_step : OneStep (in_admin made commits) DbOnline (plain (OnlineAt (0 + length commits))) (working made commits empty)
+    online_step = entry_done (in_admin made commits) DbOnline refl refl tt
+
+    -- and off
+    pub offline_open : (sessions : FinMap nat_cmp Transaction) → OneStep (working made commits sessions) DbOffline (plain OfflineNow) (at_rest made commits)
+    offline_open sessions = entry_done (working made commits sessions) DbOffline refl refl tt
+
+    pub offline_admin : OneStep (in_admin made commits) DbOffline (plain OfflineNow) (at_rest made commits)
+    offline_admin = entry_done (in_admin made commits) DbOffline refl refl tt
+
+    pub kill_admin : OneStep (in_admin made commits) Kill (plain OfflineNow) (at_rest made commits)
+    kill_admin = entry_done (in_admin made commits) Kill refl refl tt

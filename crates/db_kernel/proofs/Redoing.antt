@@ -31,17 +31,17 @@ pub record Making (left : List ℕ) (before now : Tables) (changes : List Change
 pub making_first : (left : List ℕ) (tables : Tables) (changes : List Change) → HasChanges left changes → Making left tables tables changes
 making_first left tables changes has = record { rest = changes; has = has; same = refl }
 
-module _ (size : ℕ) (name : Name) (ring : ℕ → ℕ) (commits : List Commit) where
+module _ (size : ℕ) (name : Name) (ring : ℕ → ℕ) (base : ℕ) (commits : List Commit) where
   -- what is left of a log
   pub record Redoing (position number : ℕ) (now : Tables) : Type 0 where
     pub rest : List Commit
     pub log : IsLog ring name position number rest
-    pub bytes : position + log_bytes rest ≡ log_bytes commits
+    pub bytes : position + log_bytes rest ≡ base + log_bytes commits
     pub same : with_commits rest now ≡ with_commits commits empty
 
   -- before the first group
-  pub redoing_first : (position number : ℕ) (now : Tables) → position ≡ 0 → number ≡ 0 → now ≡ empty → IsLog ring name 0 0 commits → Redoing position number now
-  redoing_first position number now at count none log = record {
+  pub redoing_first : (position number after : ℕ) (now : Tables) → position ≡ base → number ≡ after → now ≡ empty → IsLog ring name base after commits → Redoing position number now
+  redoing_first position number after now at count none log = record {
     rest = commits;
     log = subst (λ (x : ℕ × ℕ). IsLog ring name x.0 x.1 commits) (λ i. (sym at i, sym count i)) log;
     bytes = omega (arith, at);
@@ -79,18 +79,18 @@ module _ (size : ℕ) (name : Name) (ring : ℕ → ℕ) (commits : List Commit)
 
   -- where the reader has come to the end
   pub redoing_whole : (p n : ℕ) (now : Tables) (left : Redoing p n now)
-      → log_bytes commits ≤ p → now ≡ with_commits commits empty
+      → base + log_bytes commits ≤ p → now ≡ with_commits commits empty
   redoing_whole p n now left past = all_of left.rest left.bytes left.same
     where
-      all_of : (rest : List Commit) → p + log_bytes rest ≡ log_bytes commits → with_commits rest now ≡ with_commits commits empty → now ≡ with_commits commits empty
+      all_of : (rest : List Commit) → p + log_bytes rest ≡ base + log_bytes commits → with_commits rest now ≡ with_commits commits empty → now ≡ with_commits commits empty
       all_of [] sum same = same
       all_of (c ∷ rest) sum same = absurd (omega (arith, sum, past, bytes_cons c rest, group_is_long c.changes))
 
 -- what a reader in the loop finds of what is left
-module _ (size size2 start2 : ℕ) (name name2 : Name) (old mid : Image) (same_size : size2 ≡ size) (same_name : name2 ≡ name) (same_start : start2 ≡ 0) (same : Agree old mid) where
-  pub next_left : (commits : List Commit) (p n : ℕ) (now : Tables) (left : Redoing size name (ring_byte size old) commits p n now) → log_bytes commits < size → (bytes : List ℕ) (result : Result Bool PageFault)
+module _ (size size2 base start2 : ℕ) (name name2 : Name) (old mid : Image) (same_size : size2 ≡ size) (same_name : name2 ≡ name) (same_start : start2 ≡ base) (same : Agree old mid) where
+  pub next_left : (commits : List Commit) (p n : ℕ) (now : Tables) (left : Redoing size name (ring_byte size old) base commits p n now) → log_bytes commits < size → (bytes : List ℕ) (result : Result Bool PageFault)
       → ((rest : List Commit) → IsLog (ring_byte size2 mid) name2 p n rest → p + log_bytes rest < start2 + size2 → IsNextOf size2 name2 (ring_byte size2 mid) p n bytes rest result)
       → IsNextOf size name (ring_byte size old) p n bytes left.rest result
   next_left commits p n now left small bytes result next =
-      next_at size size2 0 start2 p n name name2 old mid same_size same_name same_start same bytes left.rest result
-      (next left.rest (log_at size size2 0 start2 p n name name2 old mid same_size same_name same_start same left.rest left.log) (omega (arith, left.bytes, small, same_start, same_size)))
+      next_at size size2 base start2 p n name name2 old mid same_size same_name same_start same bytes left.rest result
+      (next left.rest (log_at size size2 base start2 p n name name2 old mid same_size same_name same_start same left.rest left.log) (omega (arith, left.bytes, small, same_start, same_size)))

@@ -1,47 +1,73 @@
--- A restart.
-use Rattle.std.proofs.Common.{◌≡◌, refl, sym, subst, ap, ◌∙◌, ℕ, ◌+◌, ◌-◌, ◌%◌, min, true, false, is_some, List, [], ◌∷◌, length, Option, Some, None, Contains, Err, arith}
-use Rattle.std.specs.Ordering.{nat_cmp}
-use Rattle.std.specs.FinMap.{FinMap, empty, get-empty}
-use Rattle.std.proofs.lemmas.List.Elements.{All-contains, All-cons, All-nil}
+-- A restart, for the administrator or for the sessions.
+--     devices_agree      images of synced devices agree with what a read gives
+--     opening_starved, opening_failed, opening_refused, opening_done      how it ends
+use Rattle.std.proofs.Common.{◌≡◌, refl, sym, subst, ap, ◌∙◌, ℕ, ◌+◌, ◌-◌, ◌*◌, ◌<◌, ◌≤◌, ◌==◌, Bool, cond, min, true, false, lt-ltb, le-ltb, ne_eqb, List, [], ◌∷◌, length, Option, Some, None, Contains, Err, arith}
+use Rattle.std.specs.Prelude.{if◌then◌else◌}
+use Rattle.std.specs.FinMap.{empty, get-empty}
+use Rattle.std.proofs.lemmas.List.Elements.{All-contains}
 use Rattle.transactions.proofs.Machine.{stands-none}
 use Rattle.mdb_model.specs.declared.change.Commit.{Commit}
-use Rattle.mdb_model.specs.declared.fault.Device.TheVariants.{Log}
-use Rattle.mdb_model.specs.declared.name.State.TheVariants.{Online}
-use Rattle.mdb_model.specs.declared.script.Command.TheVariants.{DbOnline}
+use Rattle.mdb_model.specs.declared.fault.Device.{Device}
+use Rattle.mdb_model.specs.declared.fault.Device.TheVariants.{Data, Log, Medium}
 use Rattle.mdb_model.specs.declared.script.Refusal.{Refusal}
 use Rattle.mdb_model.specs.declared.script.Refusal.TheVariants.{Syntax, WrongState, Locked, DataFull, LogFull, TransactionLarge, NoMedium, MediumUsed, MediumFull, MediumEmpty, NeedData, ChainGap, UntilOutside, AreaSmall, NoSnapshot, SnapshotsFull, TaskBusy, NoTask, RestoreOpen, Damaged, NumberEnd, DeviceFailed, MemoryWanting}
-use Rattle.mdb_model.specs.declared.script.Reply.TheVariants.{OnlineAt}
 use Rattle.mdb_model.specs.Answers.{plain, refused}
-use Rattle.mdb_model.specs.Images.{Image, size_of, byte_at}
-use Rattle.mdb_model.specs.Refusals.{refusal}
-use Rattle.mdb_model.specs.Runs.{Entry}
-use Rattle.mdb_model.specs.Worlds.{World, Transaction, off}
-use Rattle.mdb_host.specs.Disk.{Disk, Goes, Agree, Synced}
-use Rattle.mdb_host.proofs.Moments.{same_image, stays}
-use Rattle.mdb_bytes.specs.LogAlone.{Stands, at_rest, first_name}
-use Rattle.mdb_bytes.specs.LogReading.{IsLog}
-use Rattle.db_kernel.specs.declared.database.Database.{Database}
-use Rattle.db_kernel.specs.Kept.{AreOff, IsAt, Fits, IsOf, OpenedIs}
+use Rattle.mdb_model.specs.Images.{Image}
 use Rattle.mdb_model.specs.Tables.{place_cmp}
+use Rattle.mdb_model.specs.Worlds.{World, off}
+use Rattle.mdb_host.specs.Disk.{Disk, Goes, Agree}
+use Rattle.mdb_host.proofs.Moments.{same_image}
+use Rattle.mdb_bytes.specs.Firsts.{first_name}
 use Rattle.mdb_bytes.specs.Rings.{ring_byte}
+use Rattle.db_kernel.specs.declared.database.Access.{Access}
+use Rattle.db_kernel.specs.declared.database.Access.TheVariants.{Admin, Online}
+use Rattle.db_kernel.specs.declared.database.Database.{Database}
+use Rattle.db_kernel.specs.Access.{opens, opened_reply}
+use Rattle.creation.specs.Devices.{device_count, device_at, SyncedUpTo}
+use Rattle.db_kernel.specs.Kept.{AreOff, FitsOpen, IsIn, IsAt, IsAtRest, IsOf, OpenedIs, made_of}
 use Rattle.db_kernel.specs.Sessions.{HasKeys}
+use Rattle.creation.specs.Standing.{Made, Stands, at_rest, made_at, ring_of}
 use Rattle.db_kernel.specs.Stretch.{Stand, Completes}
-use Rattle.db_kernel.specs.Working.{StandsOf, no_pages, working}
+use Rattle.db_kernel.specs.Working.{StandsOf, no_pages, working, in_admin}
 use Rattle.db_kernel.proofs.Doing.{does_calm}
 use Rattle.db_kernel.proofs.Keys.{keys_of_log}
-use Rattle.db_kernel.proofs.Lines.{entry_refused, entry_online, online_starved, online_failed, online_open, no_facts}
+use Rattle.db_kernel.proofs.Lines.{entry_opened, opening_starves, opening_fails, opened_world}
+use Rattle.creation.proofs.RecordLaws.{AgreeOn, stands_agree}
 
-module _ (d0 d1 : Disk) (ws : List World) (rest : AreOff ws) (stand : Stand no_pages Stands d0 ws) (calm : Goes d0 d1 Agree) where
+-- the devices by their numbers
+volume_is : (i : ℕ) → i < 8 → device_at i ≡ Data (i + 1)
+volume_is i small = ap (λ (b : Bool). if b then Data (i + 1) else if i == 8 then Log else Medium (i - 8)) (lt-ltb i 8 small)
+
+medium_is : (m : ℕ) → 1 ≤ m → device_at (m + 8) ≡ Medium m
+medium_is m low =
+    ap (λ (b : Bool). if b then Data (m + 8 + 1) else if m + 8 == 8 then Log else Medium (m + 8 - 8)) (le-ltb (m + 8) 8 (omega arith))
+    ∙ ap (λ (b : Bool). if b then Log else Medium (m + 8 - 8)) (ne_eqb (m + 8) 8 (λ e. absurd (omega (arith, e, low))))
+    ∙ ap Medium (omega arith)
+
+-- an image of devices that are synced has what a read gives, and gave
+pub devices_agree : (d1 : Disk) (before image : Image) → Agree before d1.seen → SyncedUpTo device_count d1 → d1.may_leave d1.now image → AgreeOn before image
+devices_agree d1 before image same synced left = record {
+  volumes = λ i small. subst (λ (d : Device). image d ≡ before d) (volume_is i small) (synced i (omega (arith, small)) image left ∙ same (device_at i));
+  log = synced 8 (omega arith) image left ∙ same Log;
+  media = λ m low high. subst (λ (d : Device). image d ≡ before d) (medium_is m low) (synced (m + 8) (omega (arith, high)) image left ∙ same (device_at (m + 8)));
+}
+
+-- a database that was opened is at rest again as it is closed
+off_opened : (access : Access) (made : Made) (commits : List Commit) → off (opened_world access made commits) ≡ at_rest made commits
+off_opened Admin made commits = refl
+off_opened Online made commits = refl
+
+module _ (access : Access) (d0 d1 : Disk) (ws : List World) (rest : AreOff ws) (stand : Stand no_pages Stands d0 ws) (calm : Goes d0 d1 Agree) where
   -- each image since stands for what it did
   standing : (image : Image) → d1.may_leave d1.now image → StandsOf ws image
   standing image left =
       let a = calm.since d1.now image calm.keeps.later (omega arith) left in
       subst (λ (i : Image). StandsOf ws i) (same_image a.0 image a.2) (stand a.0 a.1)
 
-  pub opening_starved : Completes no_pages Stands d0 d1 ws (Some DbOnline) (refused MemoryWanting) AreOff
+  pub opening_starved : Completes no_pages Stands d0 d1 ws (Some (opens access)) (refused MemoryWanting) AreOff
   opening_starved = record {
     after = ws;
-    does = does_calm no_pages Stands d0 d1 ws (Some DbOnline) (refused MemoryWanting) ws calm (online_starved no_pages ws rest) stand standing;
+    does = does_calm no_pages Stands d0 d1 ws (Some (opens access)) (refused MemoryWanting) ws calm (opening_starves no_pages access ws rest) stand standing;
     fit = rest;
   }
 
@@ -50,17 +76,17 @@ module _ (d0 d1 : Disk) (ws : List World) (rest : AreOff ws) (stand : Stand no_p
     abbrev pub here : StandsOf ws d0.seen
     here = stand d0.seen seen_left
 
-    pub opening_failed : Completes no_pages Stands d0 d1 ws (Some DbOnline) (refused DeviceFailed) AreOff
+    pub opening_failed : Completes no_pages Stands d0 d1 ws (Some (opens access)) (refused DeviceFailed) AreOff
     opening_failed =
-        let new = online_failed no_pages ws here.0 here.1 in
+        let new = opening_fails no_pages access ws here.0 here.1 in
         record {
           after = new.0;
-          does = does_calm no_pages Stands d0 d1 ws (Some DbOnline) (refused DeviceFailed) new.0 calm new.1 stand (λ image left. let w = standing image left in (off w.0, new.2 w.0 w.1, w.2));
+          does = does_calm no_pages Stands d0 d1 ws (Some (opens access)) (refused DeviceFailed) new.0 calm new.1 stand (λ image left. let w = standing image left in (off w.0, new.2 w.0 w.1, w.2));
           fit = new.3;
         }
 
     -- no other refusal is possible
-    pub opening_refused : (cause : Refusal) → OpenedIs here.0.ring here.0.history.commits (Err cause) → Completes no_pages Stands d0 d1 ws (Some DbOnline) (refused cause) AreOff
+    pub opening_refused : (cause : Refusal) → OpenedIs here.2.site here.0.history.commits (Err cause) → Completes no_pages Stands d0 d1 ws (Some (opens access)) (refused cause) AreOff
     opening_refused DeviceFailed is = opening_failed
     opening_refused MemoryWanting is = opening_starved
     opening_refused Syntax is = absurd is
@@ -85,87 +111,63 @@ module _ (d0 d1 : Disk) (ws : List World) (rest : AreOff ws) (stand : Stand no_p
     opening_refused (Damaged damage) is = absurd is
     opening_refused NumberEnd is = absurd is
 
-    module _ (synced : Synced d1 Log) (seen_same : Agree d0.seen d1.seen) where
-      w_is : here.0 ≡ at_rest here.0.ring here.0.history.commits
+    module _ (synced : SyncedUpTo device_count d1) (seen_same : Agree d0.seen d1.seen) where
+      abbrev made : Made
+      made = made_at here.2.site
+
+      abbrev commits : List Commit
+      commits = here.0.history.commits
+
+      w_is : here.0 ≡ at_rest made commits
       w_is = sym (All-contains (λ w. off w ≡ w) ws here.0 rest here.1) ∙ here.2.is
 
-      the_log : (image : Image) → d1.may_leave d1.now image → image Log ≡ d0.seen Log
-      the_log image left = synced image left ∙ seen_same Log
-
-      stands_again : (image : Image) → d1.may_leave d1.now image → Stands image (at_rest here.0.ring here.0.history.commits)
+      stands_again : (image : Image) → d1.may_leave d1.now image → Stands image (at_rest made commits)
       stands_again image left =
-          let a = calm.since d1.now image calm.keeps.later (omega arith) left in
-          let st = here.2 in
-          record {
-            alone = λ device other. a.2 device ∙ (stand a.0 a.1).2.alone device other;
-            is = refl;
-            size = st.size;
-            ring = ap size_of (the_log image left) ∙ st.ring;
-            log = subst (λ (o : Option (List ℕ)). IsLog (λ q. byte_at o (16384 + q % here.0.ring)) first_name 0 0 here.0.history.commits) (sym (the_log image left)) st.log;
-            room = st.room;
-          }
+          stands_agree d0.seen image (at_rest made commits) (devices_agree d1 d0.seen image seen_same synced left) (subst (λ (w : World). Stands d0.seen w) here.2.is here.2)
 
-      pub opening_done : (database : Database) → IsOf here.0.ring here.0.history.commits database → Completes no_pages Stands d0 d1 ws (Some DbOnline) (plain (OnlineAt database.ring.last_commit)) (IsAt database)
-      opening_done database is =
-          subst (λ (n : ℕ). Completes no_pages Stands d0 d1 ws (Some DbOnline) (plain (OnlineAt n)) (IsAt database)) at
-          (record {
-            after = working here.0.ring here.0.history.commits empty ∷ [];
-            does = does_calm no_pages Stands d0 d1 ws (Some DbOnline) (plain (OnlineAt (0 + length here.0.history.commits))) (working here.0.ring here.0.history.commits empty ∷ []) calm
-                (entry_online no_pages here.0.ring here.0.history.commits ws (subst (λ (w : World). Contains ws w) w_is here.1)) stand
-                (λ image left. (working here.0.ring here.0.history.commits empty, (0, omega arith, refl), stands_again image left));
-            fit = record {
-              commits = here.0.history.commits;
-              sessions = empty;
-              is = ap (λ (n : ℕ). working n here.0.history.commits empty ∷ []) (sym is.same_size);
-              tables = is.rows;
-              keys = subst HasKeys (sym is.rows) (keys_of_log (ring_byte here.0.ring d0.seen) first_name 0 0 here.0.history.commits here.2.log empty (λ table. get-empty place_cmp (table, [])));
-              stands = stands-none database.transactions (working database.ring.size here.0.history.commits empty) is.free is.unchanged refl;
-              most = is.most ∙ (λ i. min 1048576 (sym is.same_size i - 1));
-              ends = is.at_end;
-              count = is.at_last;
-              room = omega (arith, is.at_end, is.same_size, here.2.room);
-            };
-          })
-        where
-          at : 0 + length here.0.history.commits ≡ database.ring.last_commit
-          at = omega (arith, is.at_last)
+      module _ (database : Database) (is : IsOf here.2.site here.0.history.commits database) where
+        keys : HasKeys database.rows.rows
+        keys = subst HasKeys (sym is.rows) (keys_of_log (ring_byte (ring_of here.2.site) d0.seen) (first_name here.2.site.birth) 0 0 commits here.2.log empty (λ table. get-empty place_cmp (table, [])))
 
--- in Online
-entry_twice : (size : ℕ) (commits : List Commit) (begun : FinMap nat_cmp Transaction) → Entry no_pages (working size commits begun ∷ []) (Some DbOnline) (refused (WrongState Online)) (working size commits begun ∷ [])
-entry_twice size commits begun =
-    entry_refused no_pages (working size commits begun ∷ []) DbOnline (WrongState Online)
-    (All-cons (λ w. refusal no_pages w no_facts DbOnline ≡ Some (WrongState Online)) (working size commits begun) [] (online_open no_pages size commits begun) (All-nil (λ w. refusal no_pages w no_facts DbOnline ≡ Some (WrongState Online))))
+        room : database.ring.end_position < database.ring.size
+        room = omega (arith, is.at_end, ap (λ (m : Made). m.ring) is.made, here.2.room)
 
-twice : (disk : Disk) (ws : List World) (fits : List World → Type 0) → Entry no_pages ws (Some DbOnline) (refused (WrongState Online)) ws → fits ws → Stand no_pages Stands disk ws
-    → Completes no_pages Stands disk disk ws (Some DbOnline) (refused (WrongState Online)) fits
-twice disk ws fits entry fit stand = record {
-  after = ws;
-  does = does_calm no_pages Stands disk disk ws (Some DbOnline) (refused (WrongState Online)) ws (stays disk Agree (λ image d. refl)) entry stand stand;
-  fit = fit;
-}
+        fit_in : (a : Access) → IsIn a database (opened_world a made commits ∷ [])
+        fit_in Admin = record {
+          commits = commits;
+          is = λ i. in_admin (sym is.made i) commits ∷ [];
+          tables = is.rows;
+          keys = keys;
+          free = is.free;
+          unchanged = is.unchanged;
+          most = is.most;
+          ends = is.at_end;
+          count = is.at_last;
+          room = room;
+        }
+        fit_in Online = record {
+          commits = commits;
+          sessions = empty;
+          is = λ i. working (sym is.made i) commits empty ∷ [];
+          tables = is.rows;
+          keys = keys;
+          stands = stands-none database.transactions (working (made_of database) commits empty) is.free is.unchanged refl;
+          most = is.most;
+          ends = is.at_end;
+          count = is.at_last;
+          room = room;
+        }
 
-twice_open : (disk : Disk) (database : Database) (ws : List World) → IsAt database ws → Stand no_pages Stands disk ws
-    → Completes no_pages Stands disk disk ws (Some DbOnline) (refused (WrongState Online)) (IsAt database)
-twice_open disk database ws fit stand =
-    twice disk ws (IsAt database)
-    (subst (λ (vs : List World). Entry no_pages vs (Some DbOnline) (refused (WrongState Online)) vs) (sym fit.is) (entry_twice database.ring.size fit.commits fit.sessions)) fit stand
-
-some_of : (database : Option Database) → is_some database ≡ true → (open_one : Database) × (database ≡ Some open_one)
-some_of None some = cc
-some_of (Some database) some = (database, refl)
-
-pub opening_twice : (disk : Disk) (database : Option Database) (ws : List World) → is_some database ≡ true → Fits database ws → Stand no_pages Stands disk ws
-    → Completes no_pages Stands disk disk ws (Some DbOnline) (refused (WrongState Online)) (Fits database)
-opening_twice disk database ws some fit stand =
-    let there = some_of database some in
-    subst (λ (o : Option Database). Fits o ws → Completes no_pages Stands disk disk ws (Some DbOnline) (refused (WrongState Online)) (Fits o)) (sym there.1)
-    (λ at. twice_open disk there.0 ws at stand) fit
-
--- with nothing open
-pub none_of : (database : Option Database) → is_some database ≡ false → database ≡ None
-none_of None none = refl
-none_of (Some database) none = cc
-
-pub off_of : (database : Option Database) → is_some database ≡ false → (ws : List World) → Fits database ws → AreOff ws
-off_of None none ws fit = fit
-off_of (Some database) none ws fit = cc
+        pub opening_done : database.access ≡ access → Completes no_pages Stands d0 d1 ws (Some (opens access)) (plain (opened_reply access database.ring.last_commit)) (FitsOpen database)
+        opening_done told =
+            subst (λ (n : ℕ). Completes no_pages Stands d0 d1 ws (Some (opens access)) (plain (opened_reply access n)) (FitsOpen database)) at
+            (record {
+              after = opened_world access made commits ∷ [];
+              does = does_calm no_pages Stands d0 d1 ws (Some (opens access)) (plain (opened_reply access (0 + length commits))) (opened_world access made commits ∷ []) calm
+                  (entry_opened no_pages access made commits ws (subst (λ (w : World). Contains ws w) w_is here.1)) stand
+                  (λ image left. (opened_world access made commits, (0, omega arith, refl), subst (λ (w : World). Stands image w) (sym (off_opened access made commits)) (stands_again image left)));
+              fit = record { holds = is.holds; at = subst (λ (a : Access). IsIn a database (opened_world access made commits ∷ [])) (sym told) (fit_in access) };
+            })
+          where
+            at : 0 + length commits ≡ database.ring.last_commit
+            at = omega (arith, is.at_last)

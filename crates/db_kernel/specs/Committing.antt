@@ -8,13 +8,12 @@ use Rattle.mdb_model.specs.declared.script.Refusal.TheVariants.{DeviceFailed}
 use Rattle.mdb_model.specs.declared.script.Reply.{Reply}
 use Rattle.mdb_model.specs.Worlds.{World}
 use Rattle.mdb_model.specs.Answers.{plain, refused}
-use Rattle.mdb_bytes.specs.LogAlone.{Stands}
+use Rattle.creation.specs.Standing.{Stands}
 use Rattle.mdb_host.specs.Disk.{Disk}
-use Rattle.db_kernel.specs.declared.database.Database.{Database}
-use Rattle.db_kernel.specs.Kept.{IsAt, AreOff}
+use Rattle.db_kernel.specs.Kept.{AreOff}
 use Rattle.db_kernel.specs.Stretch.{Completes}
 use Rattle.db_kernel.specs.Working.{no_pages}
 
-abbrev pub CommitDoes : (old new : Disk) → List World → Session → (after : Database) → Result Reply Failed → Type 0
-CommitDoes old new ws session after (Ok reply) = Completes no_pages Stands old new ws (Some (CommitWork session)) (plain reply) (IsAt after)
-CommitDoes old new ws session after (Err failed) = Completes no_pages Stands old new ws (Some (CommitWork session)) (refused DeviceFailed) AreOff
+abbrev pub CommitDoes : (old new : Disk) → List World → Session → (fits : List World → Type 0) → Result Reply Failed → Type 0
+CommitDoes old new ws session fits (Ok reply) = Completes no_pages Stands old new ws (Some (CommitWork session)) (plain reply) fits
+CommitDoes old new ws session fits (Err failed) = Completes no_pages Stands old new ws (Some (CommitWork session)) (refused DeviceFailed) AreOff

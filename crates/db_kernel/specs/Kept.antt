@@ -1,11 +1,12 @@
 -- What a kernel keeps, against the worlds that may be.
 --     IsWholeLog, Ready      the numbers of an open database fit each other
---     IsAt, AreOff, Fits      a kernel with an open database, and one with none, against the worlds that may be
+--     made_of, HoldsAll      the name and the sizes, and that all commits stand in the log
+--     IsAt, IsAtRest, AreOff, Fits      a kernel with an open database, and one with none, against the worlds that may be
 --     Meets      the log of an open database is there
 --     answer_of, AreFew, AreKeyed, NextIs      the answer to a line with the rows of a scan, and how these are asked for
 --     as_refusal      how a fault is answered
---     IsFirstStart, StartIs, RingIs, IsOf, OpenedIs      what opening a log of these commits gives
-use Rattle.std.specs.Prelude.{◌≡◌, ℕ, ◌-◌, ◌^◌, ◌<◌, ◌≤◌, List, length, Option, Some, None, Result, Ok, Err, All, false, min}
+--     RingIs, IsOf, OpenedIs      what opening a log of these commits gives
+use Rattle.std.specs.Prelude.{◌≡◌, ℕ, ◌+◌, ◌-◌, ◌^◌, ◌<◌, ◌≤◌, List, length, Option, Some, None, Result, Ok, Err, All, false, min}
 use Rattle.std.specs.FinMap.{empty}
 use Rattle.mdb_model.specs.declared.change.Commit.{Commit}
 use Rattle.mdb_model.specs.declared.name.Session.{Session}
@@ -27,37 +28,61 @@ use Rattle.mdb_model.specs.Worlds.{World, Lock, off}
 use Rattle.mdb_bytes.specs.Held.{next_row}
 use Rattle.record_locks.specs.Holders.{bars}
 use Rattle.transactions.specs.Ongoing.{changes_of}
-use Rattle.mdb_bytes.specs.LogAlone.{first_name}
+use Rattle.mdb_bytes.specs.Firsts.{first_name}
 use Rattle.mdb_bytes.specs.LogReading.{log_bytes}
 use Rattle.mdb_bytes.specs.Rings.{HasRing}
 use Rattle.redo_ring.specs.declared.ring.Ring.{Ring}
-use Rattle.redo_ring.specs.declared.open.LogStart.{LogStart}
 use Rattle.redo_ring.specs.Calls.{InOrder}
-use Rattle.redo_ring.specs.Opening.{ring_size}
 use Rattle.db_kernel.specs.declared.database.Database.{Database}
-use Rattle.db_kernel.specs.Sessions.{IsOpen, HasKeys, scan_answer, seen_rows}
+use Rattle.db_kernel.specs.declared.database.Access.{Access}
+use Rattle.db_kernel.specs.declared.database.Access.TheVariants.{Admin, Online}
+use Rattle.creation.specs.Standing.{Made, Site, ring_of, made_at}
+use Rattle.db_kernel.specs.Sessions.{IsOpen, IsIdle, HasKeys, scan_answer, seen_rows}
 
--- the log of a database that has all its records in it: nothing is saved, and a restart reads it from its first position on
+-- The numbers of a log fit each other: it has fewer bytes behind where a restart begins than the ring, and there is room
+-- for the numbers of all commits that it may still have.
 pub record IsWholeLog (ring : Ring) : Type 0 where
   pub order : InOrder ring
-  pub name : ring.name ≡ first_name
-  pub redo : ring.redo_position ≡ 0
-  pub saved : ring.saved_position ≡ 0
-  pub room : ring.end_position < ring.size
+  pub room : ring.end_position < ring.redo_position + ring.size
+  pub low : ring.redo_position < 2 ^ 61
+  pub count : ring.last_commit + ring.redo_position < 2 ^ 61 + ring.end_position
+  pub birth : ring.name.birth < 2 ^ 61
+  pub generation : ring.name.generation < 2 ^ 61
 
 abbrev pub Ready : Option Database → Type 0
 Ready None = Unit {0}
 Ready (Some database) = IsWholeLog database.ring
 
+-- what the kernel knows of the name and the sizes
+abbrev pub made_of : Database → Made
+made_of database = record { name = database.ring.name; blocks = database.blocks; ring = database.ring.size }
+
+-- a restart begins with the first commit, and nothing is saved
+pub record HoldsAll (ring : Ring) : Type 0 where
+  pub redo : ring.redo_position ≡ 0
+  pub saved : ring.saved_position ≡ 0
+
 abbrev pub IsAt : Database → List World → Type 0
-IsAt database ws = IsOpen database.rows.rows database.transactions database.ring.size database.ring.end_position database.ring.last_commit ws
+IsAt database ws = IsOpen database.rows.rows database.transactions (made_of database) database.ring.end_position database.ring.last_commit ws
+
+abbrev pub IsAtRest : Database → List World → Type 0
+IsAtRest database ws = IsIdle database.rows.rows database.transactions (made_of database) database.ring.end_position database.ring.last_commit ws
+
+-- as it is open, in Online or in Admin
+abbrev pub IsIn : Access → Database → List World → Type 0
+IsIn Online database ws = IsAt database ws
+IsIn Admin database ws = IsAtRest database ws
+
+pub record FitsOpen (database : Database) (ws : List World) : Type 0 where
+  pub holds : HoldsAll database.ring
+  pub at : IsIn database.access database ws
 
 abbrev pub AreOff : List World → Type 0
 AreOff ws = All (λ w. off w ≡ w) ws
 
 abbrev pub Fits : Option Database → List World → Type 0
 Fits None ws = AreOff ws
-Fits (Some database) ws = IsAt database ws
+Fits (Some database) ws = FitsOpen database ws
 
 abbrev pub Meets : Option Database → Image → Type 0
 Meets None image = Unit {0}
@@ -99,42 +124,34 @@ as_refusal Memory = MemoryWanting
 as_refusal OpenFailed = DeviceFailed
 as_refusal (OpenDamaged damage) = Damaged damage
 
--- a start from the first position on
-pub record IsFirstStart (start : LogStart) : Type 0 where
-  pub name : start.name ≡ first_name
-  pub least : 4 ≤ start.pages
-  pub most : start.pages ≤ 65536
-  pub position : start.position ≡ 0
-  pub commit : start.commit ≡ 0
-  pub saved_position : start.saved_position ≡ 0
-  pub saved_commit : start.saved_commit ≡ 0
-
--- a log volume with a ring of this size is found
-abbrev pub StartIs : (size : ℕ) → Result LogStart Refusal → Type 0
-StartIs size (Ok start) = ring_size start.pages ≡ size
-StartIs size (Err DeviceFailed) = Unit {0}
-StartIs size (Err _) = ⊥
-
 -- a log of these commits is opened
-abbrev pub RingIs : (size : ℕ) → List Commit → Result Ring Refusal → Type 0
-RingIs size commits (Ok ring) = (ring.size ≡ size) × (ring.end_position ≡ log_bytes commits) × (ring.last_commit ≡ length commits)
-RingIs size commits (Err DeviceFailed) = Unit {0}
-RingIs size commits (Err MemoryWanting) = Unit {0}
-RingIs size commits (Err _) = ⊥
+pub record IsRingOf (site : Site) (commits : List Commit) (ring : Ring) : Type 0 where
+  pub name : ring.name ≡ first_name site.birth
+  pub size : ring.size ≡ ring_of site
+  pub holds : HoldsAll ring
+  pub at_end : ring.end_position ≡ log_bytes commits
+  pub at_last : ring.last_commit ≡ length commits
+
+abbrev pub RingIs : Site → List Commit → Result Ring Refusal → Type 0
+RingIs site commits (Ok ring) = IsRingOf site commits ring
+RingIs site commits (Err DeviceFailed) = Unit {0}
+RingIs site commits (Err MemoryWanting) = Unit {0}
+RingIs site commits (Err _) = ⊥
 
 -- and its rows are made
-pub record IsOf (size : ℕ) (commits : List Commit) (database : Database) : Type 0 where
-  pub same_size : database.ring.size ≡ size
+pub record IsOf (site : Site) (commits : List Commit) (database : Database) : Type 0 where
+  pub made : made_of database ≡ made_at site
+  pub holds : HoldsAll database.ring
   pub at_end : database.ring.end_position ≡ log_bytes commits
   pub at_last : database.ring.last_commit ≡ length commits
   pub rows : database.rows.rows ≡ with_commits commits empty
   -- no session has locked or changed anything
   pub free : (session : ℕ) (lock : Lock) → bars database.transactions.locks session lock ≡ false
   pub unchanged : (session : ℕ) → changes_of database.transactions session ≡ empty
-  pub most : database.transactions.most ≡ min 1048576 (size - 1)
+  pub most : database.transactions.most ≡ min 1048576 (database.ring.size - 1)
 
-abbrev pub OpenedIs : (size : ℕ) → List Commit → Result Database Refusal → Type 0
-OpenedIs size commits (Ok database) = IsOf size commits database
-OpenedIs size commits (Err DeviceFailed) = Unit {0}
-OpenedIs size commits (Err MemoryWanting) = Unit {0}
-OpenedIs size commits (Err _) = ⊥
+abbrev pub OpenedIs : Site → List Commit → Result Database Refusal → Type 0
+OpenedIs site commits (Ok database) = IsOf site commits database
+OpenedIs site commits (Err DeviceFailed) = Unit {0}
+OpenedIs site commits (Err MemoryWanting) = Unit {0}
+OpenedIs site commits (Err _) = ⊥

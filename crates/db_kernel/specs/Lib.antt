@@ -7,3 +7,5 @@ pub mod Sessions
 pub mod Kept
 pub mod Committing
 pub mod Damages
+pub mod Reading
+pub mod Access

@@ -1,6 +1,6 @@
 -- What a kernel with an open database keeps, against the machine, and how its calls are answered.
 --     HasKeys      no row has an empty key
---     IsOpen      the world of an open database, by what the kernel keeps
+--     IsOpen, IsIdle      the world of an open database, by what the kernel keeps, in Online and in Admin
 --     refusal_of, got_reply, put_reply, del_reply, scan_answer      how a call of a session is answered
 use Rattle.std.specs.Prelude.{◌≡◌, ℕ, ◌-◌, ◌<◌, List, [], ◌∷◌, Bool, true, false, None, Result, Ok, Err, length, min}
 use Rattle.std.specs.Ordering.{nat_cmp}
@@ -16,30 +16,45 @@ use Rattle.mdb_model.specs.declared.script.Reply.TheVariants.{Found, NoRow, PutD
 use Rattle.mdb_model.specs.Answers.{Answer, plain}
 use Rattle.mdb_model.specs.Steps.{rows_of}
 use Rattle.mdb_model.specs.Tables.{Tables, with_changes, with_commits}
-use Rattle.mdb_model.specs.Worlds.{World, Transaction}
+use Rattle.mdb_model.specs.Worlds.{World, Transaction, Lock}
 use Rattle.mdb_bytes.specs.LogReading.{log_bytes}
 use Rattle.transactions.specs.declared.fault.TxFault.{TxFault}
 use Rattle.transactions.specs.declared.fault.TxFault.TheVariants as tx
 use Rattle.transactions.specs.Ongoing.{Ongoing, changes_of}
 use Rattle.transactions.specs.Standing.{StandsFor}
-use Rattle.db_kernel.specs.Working.{working}
+use Rattle.record_locks.specs.Holders.{bars}
+use Rattle.creation.specs.Standing.{Made}
+use Rattle.db_kernel.specs.Working.{working, in_admin}
 
 -- no row has an empty key
 abbrev pub HasKeys : Tables → Type 0
 HasKeys tables = (table : ℕ) → get tables (table, []) ≡ None
 
 -- The one world that an open database works on: its rows are those of its commits, and its log holds them.
-pub record IsOpen (rows : Tables) (ongoing : Ongoing) (size end number : ℕ) (ws : List World) : Type 0 where
+pub record IsOpen (rows : Tables) (ongoing : Ongoing) (made : Made) (end number : ℕ) (ws : List World) : Type 0 where
   pub commits : List Commit
   pub sessions : FinMap nat_cmp Transaction
-  pub is : ws ≡ working size commits sessions ∷ []
+  pub is : ws ≡ working made commits sessions ∷ []
   pub tables : rows ≡ with_commits commits empty
   pub keys : HasKeys rows
-  pub stands : StandsFor ongoing (working size commits sessions)
-  pub most : ongoing.most ≡ min 1048576 (size - 1)
+  pub stands : StandsFor ongoing (working made commits sessions)
+  pub most : ongoing.most ≡ min 1048576 (made.ring - 1)
   pub ends : end ≡ log_bytes commits
   pub count : number ≡ length commits
-  pub room : end < size
+  pub room : end < made.ring
+
+-- The same in Admin: no session has locked or changed anything.
+pub record IsIdle (rows : Tables) (ongoing : Ongoing) (made : Made) (end number : ℕ) (ws : List World) : Type 0 where
+  pub commits : List Commit
+  pub is : ws ≡ in_admin made commits ∷ []
+  pub tables : rows ≡ with_commits commits empty
+  pub keys : HasKeys rows
+  pub free : (session : ℕ) (lock : Lock) → bars ongoing.locks session lock ≡ false
+  pub unchanged : (session : ℕ) → changes_of ongoing session ≡ empty
+  pub most : ongoing.most ≡ min 1048576 (made.ring - 1)
+  pub ends : end ≡ log_bytes commits
+  pub count : number ≡ length commits
+  pub room : end < made.ring
 
 -- the rows that a session sees
 abbrev pub seen_rows : Tables → Ongoing → ℕ → Tables

@@ -1,5 +1,5 @@
 -- The worlds that a kernel with rows in memory works on.
---     working      a world in Online, with the transactions of its sessions
+--     working, in_admin      a world in Online, with the transactions of its sessions; a world in Admin
 --     open_of, seen_by      what a session has done so far, and the rows that it sees
 --     with_lock, with_one_change      one more lock, one more change of a session
 --     Moves      a line that calls no device
@@ -8,14 +8,14 @@ use Rattle.std.specs.Ordering.{nat_cmp}
 use Rattle.std.specs.FinMap.{FinMap, get, insert}
 use Rattle.mdb_model.specs.declared.change.Change.{Change}
 use Rattle.mdb_model.specs.declared.change.Commit.{Commit}
-use Rattle.mdb_model.specs.declared.name.State.TheVariants.{Online}
+use Rattle.mdb_model.specs.declared.name.State.TheVariants.{Online, Admin}
 use Rattle.mdb_model.specs.Images.{Image}
 use Rattle.mdb_model.specs.Tables.{Tables, place_of, with_changes}
 use Rattle.mdb_model.specs.Pages.{PageReading}
 use Rattle.mdb_model.specs.Worlds.{World, off, Transaction, no_transaction, Lock, ExclusiveKey}
 use Rattle.mdb_model.specs.Answers.{Answer}
 use Rattle.mdb_model.specs.Runs.{Line, Entry}
-use Rattle.mdb_bytes.specs.LogAlone.{Stands, at_rest}
+use Rattle.creation.specs.Standing.{Made, Stands, at_rest}
 
 -- no pages are read yet
 abbrev pub no_pages : PageReading
@@ -26,8 +26,12 @@ no_pages = record {
   IsWellFormed = λ pages. ⊥;
 }
 
-abbrev pub working : (ring : ℕ) → List Commit → FinMap nat_cmp Transaction → World
-working ring commits sessions = record (at_rest ring commits) { state = Online; sessions = sessions }
+abbrev pub working : Made → List Commit → FinMap nat_cmp Transaction → World
+working made commits sessions = record (at_rest made commits) { state = Online; sessions = sessions }
+
+-- a world in Admin, where no session works
+abbrev pub in_admin : Made → List Commit → World
+in_admin made commits = record (at_rest made commits) { state = Admin }
 
 -- what a session has done so far
 abbrev pub open_of : FinMap nat_cmp Transaction → ℕ → Transaction

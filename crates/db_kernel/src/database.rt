@@ -1,11 +1,12 @@
 //! An open database: its rows in memory, what its sessions have locked and changed, and its log.
-ghost use Rattle.std.specs.Prelude.{◌≡◌, ℕ, ◌+◌, ◌-◌, ◌<◌, ◌≤◌, ◌^◌, List, map, min, length, IfOk, OnOk, OnErr, IsTrue, Err};
+ghost use Rattle.std.specs.Prelude.{◌≡◌, ℕ, ◌+◌, ◌-◌, ◌<◌, ◌≤◌, ◌^◌, List, map, min, length, IfOk, OnOk, OnErr, IsTrue, Some, Err};
 ghost use Rattle.std.specs.List.{list_all};
 ghost use Rattle.std.specs.FinMap.{len, values};
 ghost use Rattle.mdb_model.specs.Answers.{plain};
 ghost use Rattle.mdb_model.specs.Causes.{Rose, HasCause};
 ghost use Rattle.mdb_model.specs.declared.change.Change.TheVariants.{Put, Del};
-ghost use Rattle.mdb_model.specs.declared.script.Command.TheVariants.{GetRow, PutRow, DelRow, ScanTable, RollbackWork};
+ghost use Rattle.mdb_model.specs.declared.script.Command.TheVariants.{GetRow, PutRow, DelRow, ScanTable, RollbackWork, DbAdmin, DbOnline};
+ghost use Rattle.mdb_model.specs.declared.script.Reply.TheVariants.{AdminAt};
 ghost use Rattle.mdb_model.specs.Script.{is_session, is_table, is_key};
 ghost use Rattle.mdb_model.specs.Sessions.{group_bytes};
 ghost use Rattle.mdb_model.specs.Steps.{rows_of};
@@ -15,15 +16,16 @@ ghost use Rattle.mdb_host.specs.Disk.{Disk, Keeps, Goes, Arrives};
 ghost use Rattle.mdb_bytes.specs.Fields.{rises};
 ghost use Rattle.mdb_bytes.specs.Groups.{change_fits, longest_group};
 ghost use Rattle.mdb_bytes.specs.Held.{next_row, IsNextRow};
-ghost use Rattle.mdb_bytes.specs.LogAlone.{Stands};
 ghost use Rattle.mdb_bytes.specs.Rings.{HasRing};
 ghost use Rattle.redo_ring.specs.Calls.{AppendAnswer, Untouched};
 ghost use Rattle.redo_ring.specs.Ring.{Appends, Appended};
 ghost use Rattle.transactions.specs.Ongoing.{changes_of, Ended};
 ghost use Rattle.db_kernel.specs.Committing.{CommitDoes};
 ghost use Rattle.db_kernel.specs.Damages.{IsInside};
-ghost use Rattle.db_kernel.specs.Kept.{IsWholeLog, IsAt};
+ghost use Rattle.db_kernel.specs.declared.database.Access.TheVariants.{Admin};
+ghost use Rattle.db_kernel.specs.Kept.{IsWholeLog, HoldsAll, IsAt, IsAtRest, FitsOpen};
 ghost use Rattle.db_kernel.specs.Sessions.{HasKeys, scan_answer, seen_rows};
+ghost use Rattle.creation.specs.Standing.{Stands};
 ghost use Rattle.db_kernel.specs.Stretch.{Stand};
 ghost use Rattle.db_kernel.specs.Working.{Moves, no_pages};
 
@@ -34,14 +36,27 @@ use mdb_bytes::{GroupBuf, encode_group};
 use mdb_host::{Failed, Host};
 use mdb_model::bytes::{Key, KeyBuf, Value, ValueBuf};
 use mdb_model::change::Change;
-use mdb_model::name::{Session, Table};
+use mdb_model::name::{Session, State, Table};
 use mdb_model::script::{Refusal, Reply};
 use redo_ring::{Ring, RingFault};
+use std::alloc::Global;
 use transactions::Transactions;
+
+/// Who may work with an open database.
+#[derive(Clone, Copy, Debug, PartialEq, Eq)]
+pub enum Access {
+    /// The administrator alone.
+    Admin,
+    /// The sessions.
+    Online,
+}
 
 /// An open database.
 #[derive(Drop)]
 pub struct Database {
+    pub access: Access,
+    /// The blocks of the data area.
+    pub blocks: u32,
     /// The committed rows.
     pub rows: MemRows,
     /// What the sessions have locked and changed.
@@ -59,6 +74,134 @@ impl Database {
         requires table { IsTrue (is_table table.0) }
         requires key { IsTrue (is_key key.now) }
         ensures ring { self.new.ring ≡ self.old.ring }
+        ensures moves { (ws : List World) → FitsOpen self.old ws → Moves ws (Some (GetRow session table key.now)) (plain result) (FitsOpen self.new) }
+        ensures inside { IsInside result }
+    {
+        match self.access {
+            Access::Admin => Reply::Refused(Refusal::WrongState(State::Admin)),
+            Access::Online => self.get_row(session, table, key),
+        }
+    }
+
+    /// Puts a value, in the session's transaction alone.
+    pub fn put(&mut self, session: Session, table: Table, key: &Key, value: &Value) -> Reply
+        requires session { IsTrue (is_session session.0) }
+        requires fits { IsTrue (change_fits (Put table key.now value.now)) }
+        ensures ring { self.new.ring ≡ self.old.ring }
+        ensures moves { (ws : List World) → FitsOpen self.old ws → Moves ws (Some (PutRow session table key.now value.now)) (plain result) (FitsOpen self.new) }
+        ensures inside { IsInside result }
+    {
+        match self.access {
+            Access::Admin => Reply::Refused(Refusal::WrongState(State::Admin)),
+            Access::Online => self.put_row(session, table, key, value),
+        }
+    }
+
+    /// Deletes a row that the session sees, in its transaction alone.
+    pub fn del(&mut self, session: Session, table: Table, key: &Key) -> Reply
+        requires session { IsTrue (is_session session.0) }
+        requires fits { IsTrue (change_fits (Del table key.now)) }
+        ensures ring { self.new.ring ≡ self.old.ring }
+        ensures moves { (ws : List World) → FitsOpen self.old ws → Moves ws (Some (DelRow session table key.now)) (plain result) (FitsOpen self.new) }
+        ensures inside { IsInside result }
+    {
+        match self.access {
+            Access::Admin => Reply::Refused(Refusal::WrongState(State::Admin)),
+            Access::Online => self.del_row(session, table, key),
+        }
+    }
+
+    /// Gives up the session's transaction.
+    pub fn rollback(&mut self, session: Session) -> Reply
+        requires session { IsTrue (is_session session.0) }
+        ensures ring { self.new.ring ≡ self.old.ring }
+        ensures moves { (ws : List World) → FitsOpen self.old ws → Moves ws (Some (RollbackWork session)) (plain result) (FitsOpen self.new) }
+        ensures inside { IsInside result }
+    {
+        match self.access {
+            Access::Admin => Reply::Refused(Refusal::WrongState(State::Admin)),
+            Access::Online => self.give_up(session),
+        }
+    }
+
+    /// Locks a table for a scan. Its rows are then asked for one at a time.
+    pub fn scan(&mut self, session: Session, table: Table) -> Reply
+        requires session { IsTrue (is_session session.0) }
+        ensures ring { self.new.ring ≡ self.old.ring }
+        ensures moves { (ws : List World) → FitsOpen self.old ws
+            → Moves ws (Some (ScanTable session table)) (scan_answer (seen_rows self.new.rows.rows self.new.transactions session.0) table result) (FitsOpen self.new) }
+        ensures keyed { (ws : List World) → FitsOpen self.old ws → HasKeys (seen_rows self.new.rows.rows self.new.transactions session.0) }
+        ensures few { length (rows_of (seen_rows self.new.rows.rows self.new.transactions session.0) table.0) < 2 ^ 64 }
+        ensures inside { IsInside result }
+    {
+        // A scan has no more rows than these, so they can be counted.
+        let _most = self.rows.len() + self.transactions.changes(session).len();
+        match self.access {
+            Access::Admin => Reply::Refused(Refusal::WrongState(State::Admin)),
+            Access::Online => self.lock_table(session, table),
+        }
+    }
+
+    /// Commits the session's transaction. Where a device fails, only reading the log again shows
+    /// whether the commit is kept.
+    pub fn commit<H: Host>(&mut self, host: &mut H, session: Session) -> Result<Reply, Failed>
+        requires session { IsTrue (is_session session.0) }
+        requires log { IsWholeLog self.old.ring }
+        requires ring { H.tells → HasRing self.old.ring.size (H.disk host.old).seen }
+        ensures log { IsWholeLog self.new.ring }
+        ensures size { self.new.ring.size ≡ self.old.ring.size }
+        ensures ring { H.tells → HasRing self.old.ring.size (H.disk host.new).seen }
+        ensures keeps { H.tells → Keeps (H.disk host.old) (H.disk host.new) }
+        ensures does { H.tells → (ws : List World) → FitsOpen self.old ws → Stand no_pages Stands (H.disk host.old) ws
+            → CommitDoes (H.disk host.old) (H.disk host.new) ws session (FitsOpen self.new) result }
+        ensures cause { HasCause (H.faults host.old) (H.faults host.new) result }
+        ensures inside { IfOk result IsInside }
+        ensures say_faults { H.say_faults host.new ≡ H.say_faults host.old }
+    {
+        match self.access {
+            Access::Admin => Ok(Reply::Refused(Refusal::WrongState(State::Admin))),
+            Access::Online => self.commit_changes(host, session),
+        }
+    }
+
+    /// Dismisses the sessions, where they were let in.
+    pub fn go_admin(&mut self, alloc: Global) -> Reply
+        requires log { IsWholeLog self.old.ring }
+        ensures ring { self.new.ring ≡ self.old.ring }
+        ensures moves { (ws : List World) → FitsOpen self.old ws → Moves ws (Some DbAdmin) (plain result) (FitsOpen self.new) }
+        ensures inside { IsInside result }
+    {
+        match self.access {
+            Access::Admin => Reply::Refused(Refusal::WrongState(State::Admin)),
+            Access::Online => {
+                self.dismiss_sessions(alloc);
+                Reply::AdminAt(self.ring.last_commit)
+            }
+        }
+    }
+
+    /// Lets the sessions in, where they were not.
+    pub fn go_online(&mut self) -> Reply
+        ensures ring { self.new.ring ≡ self.old.ring }
+        ensures moves { (ws : List World) → FitsOpen self.old ws → Moves ws (Some DbOnline) (plain result) (FitsOpen self.new) }
+        ensures inside { IsInside result }
+    {
+        match self.access {
+            Access::Online => Reply::Refused(Refusal::WrongState(State::Online)),
+            Access::Admin => {
+                self.access = Access::Online;
+                Reply::OnlineAt(self.ring.last_commit)
+            }
+        }
+    }
+
+    // The value of a row, as the session sees it.
+    fn get_row(&mut self, session: Session, table: Table, key: &Key) -> Reply
+        requires session { IsTrue (is_session session.0) }
+        requires table { IsTrue (is_table table.0) }
+        requires key { IsTrue (is_key key.now) }
+        ensures ring { self.new.ring ≡ self.old.ring }
+        ensures access { self.new.access ≡ self.old.access }
         ensures moves { (ws : List World) → IsAt self.old ws → Moves ws (Some (GetRow session table key.now)) (plain result) (IsAt self.new) }
         ensures inside { IsInside result }
     {
@@ -69,11 +212,12 @@ impl Database {
         get_answer(found, value)
     }
 
-    /// Puts a value, in the session's transaction alone.
-    pub fn put(&mut self, session: Session, table: Table, key: &Key, value: &Value) -> Reply
+    // Puts a value, in the session's transaction alone.
+    fn put_row(&mut self, session: Session, table: Table, key: &Key, value: &Value) -> Reply
         requires session { IsTrue (is_session session.0) }
         requires fits { IsTrue (change_fits (Put table key.now value.now)) }
         ensures ring { self.new.ring ≡ self.old.ring }
+        ensures access { self.new.access ≡ self.old.access }
         ensures moves { (ws : List World) → IsAt self.old ws → Moves ws (Some (PutRow session table key.now value.now)) (plain result) (IsAt self.new) }
         ensures inside { IsInside result }
     {
@@ -83,11 +227,12 @@ impl Database {
         put_answer(done)
     }
 
-    /// Deletes a row that the session sees, in its transaction alone.
-    pub fn del(&mut self, session: Session, table: Table, key: &Key) -> Reply
+    // Deletes a row that the session sees, in its transaction alone.
+    fn del_row(&mut self, session: Session, table: Table, key: &Key) -> Reply
         requires session { IsTrue (is_session session.0) }
         requires fits { IsTrue (change_fits (Del table key.now)) }
         ensures ring { self.new.ring ≡ self.old.ring }
+        ensures access { self.new.access ≡ self.old.access }
         ensures moves { (ws : List World) → IsAt self.old ws → Moves ws (Some (DelRow session table key.now)) (plain result) (IsAt self.new) }
         ensures inside { IsInside result }
     {
@@ -97,10 +242,11 @@ impl Database {
         del_answer(found)
     }
 
-    /// Locks a table for a scan. Its rows are then asked for one at a time.
-    pub fn scan(&mut self, session: Session, table: Table) -> Reply
+    // Locks a table for a scan. Its rows are then asked for one at a time.
+    fn lock_table(&mut self, session: Session, table: Table) -> Reply
         requires session { IsTrue (is_session session.0) }
         ensures ring { self.new.ring ≡ self.old.ring }
+        ensures access { self.new.access ≡ self.old.access }
         ensures moves { (ws : List World) → IsAt self.old ws
             → Moves ws (Some (ScanTable session table)) (scan_answer (seen_rows self.new.rows.rows self.new.transactions session.0) table result) (IsAt self.new) }
         ensures keyed { (ws : List World) → IsAt self.old ws → HasKeys (seen_rows self.new.rows.rows self.new.transactions session.0) }
@@ -134,10 +280,11 @@ impl Database {
         )
     }
 
-    /// Gives up the session's transaction.
-    pub fn rollback(&mut self, session: Session) -> Reply
+    // Gives up the session's transaction.
+    fn give_up(&mut self, session: Session) -> Reply
         requires session { IsTrue (is_session session.0) }
         ensures ring { self.new.ring ≡ self.old.ring }
+        ensures access { self.new.access ≡ self.old.access }
         ensures moves { (ws : List World) → IsAt self.old ws → Moves ws (Some (RollbackWork session)) (plain result) (IsAt self.new) }
         ensures inside { IsInside result }
     {
@@ -145,18 +292,20 @@ impl Database {
         Reply::RolledBack
     }
 
-    /// Commits the session's transaction. Where a device fails, only reading the log again shows
-    /// whether the commit is kept.
-    pub fn commit<H: Host>(&mut self, host: &mut H, session: Session) -> Result<Reply, Failed>
+    // Commits the session's transaction. Where a device fails, only reading the log again shows
+    // whether the commit is kept.
+    fn commit_changes<H: Host>(&mut self, host: &mut H, session: Session) -> Result<Reply, Failed>
         requires session { IsTrue (is_session session.0) }
         requires log { IsWholeLog self.old.ring }
         requires ring { H.tells → HasRing self.old.ring.size (H.disk host.old).seen }
         ensures log { IsWholeLog self.new.ring }
         ensures size { self.new.ring.size ≡ self.old.ring.size }
+        ensures holds { HoldsAll self.old.ring → HoldsAll self.new.ring }
+        ensures access { self.new.access ≡ self.old.access }
         ensures ring { H.tells → HasRing self.old.ring.size (H.disk host.new).seen }
         ensures keeps { H.tells → Keeps (H.disk host.old) (H.disk host.new) }
-        ensures does { H.tells → (ws : List World) → IsAt self.old ws → Stand no_pages Stands (H.disk host.old) ws
-            → CommitDoes (H.disk host.old) (H.disk host.new) ws session self.new result }
+        ensures does { H.tells → (ws : List World) → HoldsAll self.old.ring → IsAt self.old ws → Stand no_pages Stands (H.disk host.old) ws
+            → CommitDoes (H.disk host.old) (H.disk host.new) ws session (IsAt self.new) result }
         ensures cause { HasCause (H.faults host.old) (H.faults host.new) result }
         ensures inside { IfOk result IsInside }
         ensures say_faults { H.say_faults host.new ≡ H.say_faults host.old }
@@ -187,6 +336,17 @@ impl Database {
         Ok(Reply::Committed(self.ring.last_commit))
     }
 
+    // Gives up all transactions, and lets no session in.
+    fn dismiss_sessions(&mut self, alloc: Global)
+        requires log { IsWholeLog self.old.ring }
+        ensures ring { self.new.ring ≡ self.old.ring }
+        ensures access { self.new.access ≡ Admin }
+        ensures moves { (ws : List World) → IsAt self.old ws → Moves ws (Some DbAdmin) (plain (AdminAt self.old.ring.last_commit)) (IsAtRest self.new) }
+    {
+        self.transactions = Transactions::new(alloc, most_bytes(self.ring.size));
+        self.access = Access::Admin;
+    }
+
     // Makes the session's changes in the rows, and ends its transaction. It takes no memory.
     fn settle(&mut self, session: Session)
         requires session { IsTrue (is_session session.0) }
@@ -194,11 +354,24 @@ impl Database {
         ensures rows { self.new.rows.rows ≡ with_changes (values (changes_of self.old.transactions session.0)) self.old.rows.rows }
         ensures ended { Ended self.old.transactions self.new.transactions session.0 }
         ensures ring { self.new.ring ≡ self.old.ring }
+        ensures blocks { self.new.blocks ≡ self.old.blocks }
+        ensures access { self.new.access ≡ self.old.access }
     {
         let changes = self.transactions.take_changes(session);
         self.rows.apply_all(changes);
         self.transactions.ended(session);
     }
+}
+
+// The bytes that a group may have at most, whatever the log.
+const LONGEST_GROUP: u64 = 1_048_576;
+
+// The bytes that a group may have at most in a log of this size.
+pub(crate) fn most_bytes(size: u64) -> u64
+    requires { 0 < size }
+    ensures { result ≡ min 1048576 (size - 1) }
+{
+    LONGEST_GROUP.min(size - 1)
 }
 
 // Appends the group of these changes to the log.
@@ -213,7 +386,7 @@ fn log_changes<H: Host>(
     requires ascend { IsTrue (rises place_cmp (map place_of changes.now)) }
     requires each_fits { IsTrue (list_all change_fits changes.now) }
     requires fit { group_bytes changes.now ≤ longest_group }
-    ensures answer { AppendAnswer ring.old.size ring.old.end_position ring.old.end_position (group_bytes changes.now) result }
+    ensures answer { AppendAnswer ring.old.size (ring.old.end_position - ring.old.saved_position) (ring.old.end_position - ring.old.redo_position) (group_bytes changes.now) result }
     ensures ok { OnOk result (ring.new ≡ record ring.old { end_position = ring.old.end_position + group_bytes changes.now; last_commit = ring.old.last_commit + 1 }) }
     ensures err { OnErr result (ring.new ≡ ring.old) }
     ensures untouched { Untouched result (host.new ≡ host.old) }
@@ -232,7 +405,7 @@ fn log_changes<H: Host>(
 // The log has no room for a group beside what is not saved.
 fn log_full(ring: &Ring) -> Refusal
     requires { IsWholeLog ring.now }
-    ensures { result ≡ Refusal.LogFull ring.now.end_position ring.now.size }
+    ensures { result ≡ Refusal.LogFull (ring.now.end_position - ring.now.saved_position) ring.now.size }
 {
     Refusal::LogFull {
         unsaved: ring.end_position - ring.saved_position,

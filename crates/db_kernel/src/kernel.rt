@@ -3,20 +3,21 @@ ghost use Rattle.std.specs.Prelude.{◌≡◌, ℕ, ◌≤◌, ◌<◌, ◌^◌,
 ghost use Rattle.mdb_model.specs.Answers.{plain};
 ghost use Rattle.mdb_model.specs.Causes.{Rose};
 ghost use Rattle.mdb_model.specs.declared.change.Change.TheVariants.{Put, Del};
-ghost use Rattle.mdb_model.specs.declared.script.Command.TheVariants.{GetRow, PutRow, DelRow, ScanTable, CommitWork, RollbackWork, DbOnline, Kill};
+ghost use Rattle.mdb_model.specs.declared.script.Command.TheVariants.{GetRow, PutRow, DelRow, ScanTable, CommitWork, RollbackWork, DbAdmin, DbOnline, DbOffline, Kill};
 ghost use Rattle.mdb_model.specs.Images.{Image};
 ghost use Rattle.mdb_model.specs.Script.{is_in_range, is_session, is_table, is_key};
 ghost use Rattle.mdb_model.specs.Worlds.{World};
 ghost use Rattle.mdb_host.specs.Disk.{Disk, Keeps};
 ghost use Rattle.mdb_bytes.specs.Groups.{change_fits};
-ghost use Rattle.mdb_bytes.specs.LogAlone.{Stands};
 ghost use Rattle.db_kernel.specs.Damages.{IsInside, RepliesDamage};
 ghost use Rattle.db_kernel.specs.Kept.{Ready, Meets, Fits, answer_of, scanned_rows, AreFew, AreKeyed, NextIs};
 ghost use Rattle.db_kernel.specs.Sessions.{scan_answer};
+ghost use Rattle.db_kernel.specs.Access.{opens, opened_reply, state_of};
+ghost use Rattle.creation.specs.Standing.{Stands};
 ghost use Rattle.db_kernel.specs.Stretch.{Stand, Completes};
 ghost use Rattle.db_kernel.specs.Working.{Moves, no_pages};
 
-use crate::database::Database;
+use crate::database::{Access, Database};
 use crate::opening::open_database;
 use mdb_host::Host;
 use mdb_model::bytes::{Key, KeyBuf, Value, ValueBuf};
@@ -39,6 +40,19 @@ impl Kernel {
         Kernel {
             alloc,
             database: None,
+        }
+    }
+
+    /// The operational state.
+    pub fn state(&self) -> State
+        ensures { result ≡ state_of self.now.database }
+    {
+        match &self.database {
+            None => State::Offline,
+            Some(database) => match database.access {
+                Access::Admin => State::Admin,
+                Access::Online => State::Online,
+            },
         }
     }
 
@@ -67,12 +81,12 @@ impl Kernel {
             Command::ScanTable(session, table) => self.scan(*session, *table),
             Command::CommitWork(session) => self.commit(host, *session),
             Command::RollbackWork(session) => self.rollback(*session),
+            Command::DbAdmin => self.go_admin(host),
             Command::DbOnline => self.go_online(host),
+            Command::DbOffline => self.go_offline(),
+            Command::DbState => Reply::StateIs(self.state()),
             Command::Kill => self.kill(),
-            Command::DbAdmin
-            | Command::DbOffline
-            | Command::DbState
-            | Command::MakeSavepoint
+            Command::MakeSavepoint
             | Command::TaskSavepoint
             | Command::TaskBackup(_, _)
             | Command::TurnSavepoint
@@ -224,6 +238,28 @@ impl Kernel {
         }
     }
 
+    // Lets the administrator in: opens the database, or dismisses the sessions.
+    fn go_admin<H: Host>(&mut self, host: &mut H) -> Reply
+        requires ready { Ready self.old.database }
+        requires meets { H.tells → Meets self.old.database (H.disk host.old).seen }
+        ensures ready { Ready self.new.database }
+        ensures meets { H.tells → Meets self.new.database (H.disk host.new).seen }
+        ensures keeps { H.tells → Keeps (H.disk host.old) (H.disk host.new) }
+        ensures does { H.tells → (ws : List World) → Fits self.old.database ws → Stand no_pages Stands (H.disk host.old) ws
+            → Completes no_pages Stands (H.disk host.old) (H.disk host.new) ws (Some DbAdmin) (plain result) (Fits self.new.database) }
+        ensures later { H.faults host.old ≤ H.faults host.new }
+        ensures cause { result ≡ Reply.Refused Refusal.DeviceFailed → Rose (H.faults host.old) (H.faults host.new) }
+        ensures damage { H.tells → RepliesDamage (H.disk host.old).seen result }
+        ensures say_faults { H.say_faults host.new ≡ H.say_faults host.old }
+    {
+        let alloc = self.alloc;
+        match &mut self.database {
+            None => self.restart(host, Access::Admin),
+            Some(database) => database.go_admin(alloc),
+        }
+    }
+
+    // Lets the sessions in: opens the database, or ends the administrator's work.
     fn go_online<H: Host>(&mut self, host: &mut H) -> Reply
         requires ready { Ready self.old.database }
         requires meets { H.tells → Meets self.old.database (H.disk host.old).seen }
@@ -237,16 +273,54 @@ impl Kernel {
         ensures damage { H.tells → RepliesDamage (H.disk host.old).seen result }
         ensures say_faults { H.say_faults host.new ≡ H.say_faults host.old }
     {
-        if self.database.is_some() {
-            return Reply::Refused(Refusal::WrongState(State::Online));
+        match &mut self.database {
+            None => self.restart(host, Access::Online),
+            Some(database) => database.go_online(),
         }
-        match open_database(self.alloc, host) {
+    }
+
+    // Opens the database.
+    fn restart<H: Host>(&mut self, host: &mut H, access: Access) -> Reply
+        requires off { self.old.database ≡ None }
+        ensures ready { Ready self.new.database }
+        ensures meets { H.tells → Meets self.new.database (H.disk host.new).seen }
+        ensures keeps { H.tells → Keeps (H.disk host.old) (H.disk host.new) }
+        ensures does { H.tells → (ws : List World) → Fits None ws → Stand no_pages Stands (H.disk host.old) ws
+            → Completes no_pages Stands (H.disk host.old) (H.disk host.new) ws (Some (opens access)) (plain result) (Fits self.new.database) }
+        ensures later { H.faults host.old ≤ H.faults host.new }
+        ensures cause { result ≡ Reply.Refused Refusal.DeviceFailed → Rose (H.faults host.old) (H.faults host.new) }
+        ensures damage { H.tells → RepliesDamage (H.disk host.old).seen result }
+        ensures say_faults { H.say_faults host.new ≡ H.say_faults host.old }
+    {
+        match open_database(self.alloc, host, access) {
             Ok(database) => {
                 let commit = database.ring.last_commit;
                 self.database = Some(database);
-                Reply::OnlineAt(commit)
+                opened(access, commit)
             }
             Err(refusal) => Reply::Refused(refusal),
         }
+    }
+
+    fn go_offline(&mut self) -> Reply
+        ensures off { self.new.database ≡ None }
+        ensures moves { (ws : List World) → Fits self.old.database ws → Moves ws (Some DbOffline) (plain result) (Fits self.new.database) }
+        ensures inside { IsInside result }
+    {
+        if self.database.is_none() {
+            return Reply::Refused(Refusal::WrongState(State::Offline));
+        }
+        self.database = None;
+        Reply::OfflineNow
+    }
+}
+
+// How a database that was opened is told.
+fn opened(access: Access, commit: u64) -> Reply
+    ensures { result ≡ opened_reply access commit }
+{
+    match access {
+        Access::Admin => Reply::AdminAt(commit),
+        Access::Online => Reply::OnlineAt(commit),
     }
 }

@@ -3,8 +3,11 @@
 
 pub mod database;
 pub mod kernel;
-mod opening;
+pub mod opening;
+mod records;
 mod redo;
 mod replies;
 pub mod rows;
 mod scan;
+
+pub use creation::{CreateFault, create};

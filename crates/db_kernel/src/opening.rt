@@ -1,37 +1,35 @@
-//! Opening the database of a log.
-ghost use Rattle.std.specs.Prelude.{◌≡◌, ℕ, ◌+◌, ◌-◌, ◌*◌, ◌≤◌, ◌<◌, List, Err, IfOk, IfErr, min};
+//! Opening a database: its records say where its log begins, and the log has its rows.
+ghost use Rattle.std.specs.Prelude.{◌≡◌, ℕ, ◌+◌, ◌≤◌, ◌<◌, ◌^◌, List, Err, IfOk, IfErr};
 ghost use Rattle.mdb_model.specs.Causes.{Rose};
-ghost use Rattle.mdb_model.specs.declared.change.Commit.{Commit};
-ghost use Rattle.mdb_model.specs.declared.fault.Device.TheVariants.{Log};
-ghost use Rattle.mdb_host.specs.Disk.{Disk, Goes, Agree, Synced};
-ghost use Rattle.mdb_bytes.specs.LogAlone.{first_name};
-ghost use Rattle.mdb_bytes.specs.LogReading.{IsLog, log_bytes};
-ghost use Rattle.mdb_bytes.specs.Rings.{HasRing, IsRingSize, ring_byte};
+ghost use Rattle.mdb_model.specs.Worlds.{World};
+ghost use Rattle.mdb_host.specs.Disk.{Disk, Goes, Agree};
+ghost use Rattle.mdb_bytes.specs.Rings.{HasRing};
 ghost use Rattle.redo_ring.specs.Opening.{ring_size};
-ghost use Rattle.redo_ring.specs.Ring.{HasLog};
-ghost use Rattle.db_kernel.specs.Damages.{TellsDamage};
-ghost use Rattle.db_kernel.specs.Kept.{IsWholeLog, IsFirstStart, StartIs, RingIs, OpenedIs, as_refusal};
+ghost use Rattle.db_kernel.specs.Damages.{RefusesInFront, Refuses};
+ghost use Rattle.creation.specs.Devices.{device_count, SyncedUpTo};
+ghost use Rattle.db_kernel.specs.Kept.{IsWholeLog, OpenedIs, as_refusal};
+ghost use Rattle.db_kernel.specs.Reading.{IsFound, IsLowStart};
+ghost use Rattle.creation.specs.Standing.{Stands};
 
-use crate::database::Database;
+use crate::database::{Access, Database, most_bytes};
+use crate::records::{check_volumes, log_start, read_log_info, read_restart_record};
 use crate::redo::redo;
+use creation::sync_devices;
 use mdb_bytes::GroupBuf;
-use mdb_host::{Device, Host};
-use mdb_model::fault::{Damage, OpenFault, Rule};
-use mdb_model::name::Name;
+use mdb_host::Host;
+use mdb_model::fault::OpenFault;
 use mdb_model::script::Refusal;
 use redo_ring::{LogStart, Ring};
 use std::alloc::Global;
 use transactions::Transactions;
 
-// The log volume breaks a rule as a whole.
-fn damaged(rule: Rule) -> Refusal
-    ensures { result ≡ Refusal.Damaged (record { device = Log; page = 0; rule = rule }) }
-{
-    Refusal::Damaged(Damage {
-        device: Device::Log,
-        page: 0,
-        rule,
-    })
+/// What the records of a database say.
+#[derive(Clone, Copy, Debug, PartialEq, Eq)]
+pub struct Found {
+    /// Where its log begins.
+    pub start: LogStart,
+    /// The blocks of its data area.
+    pub blocks: u32,
 }
 
 // How a fault is answered.
@@ -45,100 +43,88 @@ fn refusal_of(fault: OpenFault) -> Refusal
     }
 }
 
-// Finds the log volume, and syncs it, so that what is read from it now stays.
-fn log_start<H: Host>(host: &mut H) -> Result<LogStart, Refusal>
+// Reads the records of devices that are synced.
+fn read_records<H: Host>(host: &mut H) -> Result<Found, Refusal>
+    ensures found { IfOk result (λ found. H.tells → IsFound found (H.disk host.old).seen) }
+    ensures start { IfOk result (λ found. IsLowStart found.start) }
+    ensures ring { IfOk result (λ found. H.tells → HasRing (ring_size found.start.pages) (H.disk host.new).seen) }
+    ensures refuses { H.tells → IfErr result (RefusesInFront (H.disk host.old).seen) }
     ensures calm { H.tells → Goes (H.disk host.old) (H.disk host.new) Agree }
     ensures seen { H.tells → Agree (H.disk host.old).seen (H.disk host.new).seen }
-    ensures first { IfOk result IsFirstStart }
-    ensures there { H.tells → IfOk result (λ start. HasRing (ring_size start.pages) (H.disk host.new).seen) }
-    ensures synced { H.tells → IfOk result (λ start. Synced (H.disk host.new) Log) }
-    ensures finds { H.tells → (size : ℕ) → IsRingSize size → HasRing size (H.disk host.old).seen → StartIs size result }
-    ensures damage { H.tells → IfErr result (TellsDamage (H.disk host.old).seen) }
     ensures later { H.faults host.old ≤ H.faults host.new }
     ensures cause { result ≡ Err Refusal.DeviceFailed → Rose (H.faults host.old) (H.faults host.new) }
     ensures say_faults { H.say_faults host.new ≡ H.say_faults host.old }
 {
-    let Some(pages) = host.size(Device::Log) else {
-        return Err(damaged(Rule::Missing));
-    };
-    if pages < 4 || 65_536 < pages {
-        return Err(damaged(Rule::Size));
-    }
-    let Ok(()) = host.sync(Device::Log) else {
-        return Err(Refusal::DeviceFailed);
-    };
-    Ok(LogStart {
-        name: Name {
-            birth: 1,
-            generation: 1,
-        },
-        pages: pages as u32,
-        position: 0,
-        commit: 0,
-        saved_position: 0,
-        saved_commit: 0,
-    })
-}
-
-// Opens the log from its first position on.
-fn open_ring<H: Host>(alloc: Global, host: &mut H) -> Result<Ring, Refusal>
-    ensures calm { H.tells → Goes (H.disk host.old) (H.disk host.new) Agree }
-    ensures seen { H.tells → Agree (H.disk host.old).seen (H.disk host.new).seen }
-    ensures whole { IfOk result IsWholeLog }
-    ensures there { H.tells → IfOk result (λ ring. HasRing ring.size (H.disk host.new).seen) }
-    ensures synced { H.tells → IfOk result (λ ring. Synced (H.disk host.new) Log) }
-    ensures finds { H.tells → (size : ℕ) (commits : List Commit) → IsRingSize size → HasRing size (H.disk host.old).seen
-        → IsLog (ring_byte size (H.disk host.old).seen) first_name 0 0 commits → log_bytes commits < size → RingIs size commits result }
-    ensures log { H.tells → IfOk result (λ ring. (commits : List Commit) × HasLog ring.size ring.name (ring_byte ring.size (H.disk host.new).seen) 0 0 ring.end_position ring.last_commit commits) }
-    ensures damage { H.tells → IfErr result (TellsDamage (H.disk host.old).seen) }
-    ensures later { H.faults host.old ≤ H.faults host.new }
-    ensures cause { result ≡ Err Refusal.DeviceFailed → Rose (H.faults host.old) (H.faults host.new) }
-    ensures say_faults { H.say_faults host.new ≡ H.say_faults host.old }
-{
-    let start = match log_start(host) {
-        Ok(start) => start,
+    let restart = match read_restart_record(host) {
+        Ok(restart) => restart,
         Err(refusal) => return Err(refusal),
     };
-    match Ring::open(alloc, host, &start) {
-        Ok(ring) => Ok(ring),
-        Err(fault) => Err(refusal_of(fault)),
+    let blocks = match check_volumes(host, &restart) {
+        Ok(blocks) => blocks,
+        Err(refusal) => return Err(refusal),
+    };
+    let info = match read_log_info(host) {
+        Ok(info) => info,
+        Err(refusal) => return Err(refusal),
+    };
+    match log_start(&restart, &info) {
+        Ok(start) => Ok(Found { start, blocks }),
+        Err(refusal) => Err(refusal),
     }
 }
 
-// The bytes that a group may have at most, whatever the log.
-const LONGEST_GROUP: u64 = 1_048_576;
-
-// The bytes that a group may have at most in a log of this size.
-fn most_bytes(size: u64) -> u64
-    requires { 0 < size }
-    ensures { result ≡ min 1048576 (size - 1) }
+// Syncs every device, so that what is read from now on stays, and reads the records.
+fn find_records<H: Host>(host: &mut H) -> Result<Found, Refusal>
+    ensures found { IfOk result (λ found. H.tells → IsFound found (H.disk host.old).seen) }
+    ensures start { IfOk result (λ found. IsLowStart found.start) }
+    ensures ring { IfOk result (λ found. H.tells → HasRing (ring_size found.start.pages) (H.disk host.new).seen) }
+    ensures synced { IfOk result (λ found. H.tells → SyncedUpTo device_count (H.disk host.new)) }
+    ensures refuses { H.tells → IfErr result (RefusesInFront (H.disk host.old).seen) }
+    ensures calm { H.tells → Goes (H.disk host.old) (H.disk host.new) Agree }
+    ensures seen { H.tells → Agree (H.disk host.old).seen (H.disk host.new).seen }
+    ensures later { H.faults host.old ≤ H.faults host.new }
+    ensures cause { result ≡ Err Refusal.DeviceFailed → Rose (H.faults host.old) (H.faults host.new) }
+    ensures say_faults { H.say_faults host.new ≡ H.say_faults host.old }
 {
-    LONGEST_GROUP.min(size - 1)
+    let Ok(()) = sync_devices(host) else {
+        return Err(Refusal::DeviceFailed);
+    };
+    read_records(host)
 }
 
-/// Opens the database of the log: its rows are those that the log's groups leave.
-pub fn open_database<H: Host>(alloc: Global, host: &mut H) -> Result<Database, Refusal>
+/// Opens the database of the devices: its rows are those that the log's groups leave.
+pub fn open_database<H: Host>(
+    alloc: Global,
+    host: &mut H,
+    access: Access,
+) -> Result<Database, Refusal>
     ensures calm { H.tells → Goes (H.disk host.old) (H.disk host.new) Agree }
     ensures seen { H.tells → Agree (H.disk host.old).seen (H.disk host.new).seen }
     ensures whole { IfOk result (λ database. IsWholeLog database.ring) }
+    ensures access { IfOk result (λ database. database.access ≡ access) }
     ensures there { H.tells → IfOk result (λ database. HasRing database.ring.size (H.disk host.new).seen) }
-    ensures synced { H.tells → IfOk result (λ database. Synced (H.disk host.new) Log) }
-    ensures finds { H.tells → (size : ℕ) (commits : List Commit) → IsRingSize size → HasRing size (H.disk host.old).seen
-        → IsLog (ring_byte size (H.disk host.old).seen) first_name 0 0 commits → log_bytes commits < size → OpenedIs size commits result }
-    ensures damage { H.tells → IfErr result (TellsDamage (H.disk host.old).seen) }
+    ensures synced { H.tells → IfOk result (λ database. SyncedUpTo device_count (H.disk host.new)) }
+    ensures finds { H.tells → (w : World) → (stands : Stands (H.disk host.old).seen w) → OpenedIs stands.site w.history.commits result }
+    ensures refuses { H.tells → IfErr result (Refuses (H.disk host.old).seen) }
     ensures later { H.faults host.old ≤ H.faults host.new }
     ensures cause { result ≡ Err Refusal.DeviceFailed → Rose (H.faults host.old) (H.faults host.new) }
     ensures say_faults { H.say_faults host.new ≡ H.say_faults host.old }
 {
-    let ring = match open_ring(alloc, host) {
-        Ok(ring) => ring,
+    let found = match find_records(host) {
+        Ok(found) => found,
         Err(refusal) => return Err(refusal),
+    };
+    let ring = match Ring::open(alloc, host, &found.start) {
+        Ok(ring) => ring,
+        Err(fault) => return Err(refusal_of(fault)),
     };
     let Ok(mut group) = GroupBuf::new(alloc) else {
         return Err(Refusal::MemoryWanting);
     };
-    match redo(alloc, host, &ring, &mut group) {
+    match redo(alloc, host, &ring, &found.start, &mut group) {
         Ok(rows) => Ok(Database {
+            access,
+            blocks: found.blocks,
             rows,
             transactions: Transactions::new(alloc, most_bytes(ring.size)),
             ring,

@@ -10,6 +10,7 @@ ghost use Rattle.mdb_bytes.specs.Groups.{group_format};
 ghost use Rattle.mdb_bytes.specs.LoggedChanges.{change_of, IsWithinLimits};
 ghost use Rattle.mdb_bytes.specs.LogReading.{IsLog, log_bytes};
 ghost use Rattle.mdb_bytes.specs.Rings.{HasRing, IsRingSize, ring_byte};
+ghost use Rattle.redo_ring.specs.Opening.{IsStart};
 ghost use Rattle.db_kernel.specs.Redo.{RedoneGroup, Redone};
 
 use crate::rows::MemRows;
@@ -18,7 +19,7 @@ use mdb_host::Host;
 use mdb_model::bytes::{Key, Value};
 use mdb_model::change::Change;
 use mdb_model::fault::{Memory, OpenFault, PageFault};
-use redo_ring::Ring;
+use redo_ring::{LogStart, Ring};
 use std::alloc::Global;
 
 // A change of a group, in memory of its own.
@@ -50,26 +51,28 @@ fn redo_group(alloc: Global, group: &GroupBuf, rows: &mut MemRows) -> Result<(),
     Ok(())
 }
 
-/// The rows that the groups of the log leave, from its first position on up to its end. `group` is
-/// the room for one of them.
+/// The rows that the groups of the log leave, from where a restart begins up to the log's end.
+/// `group` is the room for one of them.
 pub fn redo<H: Host>(
     alloc: Global,
     host: &mut H,
     ring: &Ring,
+    start: &LogStart,
     group: &mut GroupBuf,
 ) -> Result<MemRows, OpenFault>
     requires size { IsRingSize ring.now.size }
+    requires start { IsStart start.now }
     requires ring { H.tells → HasRing ring.now.size (H.disk host.old).seen }
     ensures calm { H.tells → Goes (H.disk host.old) (H.disk host.new) Agree }
     ensures seen { H.tells → Agree (H.disk host.old).seen (H.disk host.new).seen }
-    ensures all { H.tells → (commits : List Commit) → IsLog (ring_byte ring.now.size (H.disk host.old).seen) ring.now.name 0 0 commits
-        → log_bytes commits < ring.now.size → ring.now.end_position ≡ log_bytes commits → Redone commits result }
+    ensures all { H.tells → (commits : List Commit) → IsLog (ring_byte ring.now.size (H.disk host.old).seen) ring.now.name start.now.position start.now.commit commits
+        → log_bytes commits < ring.now.size → ring.now.end_position ≡ start.now.position + log_bytes commits → Redone commits result }
     ensures later { H.faults host.old ≤ H.faults host.new }
     ensures cause { result ≡ Err OpenFault.Failed → Rose (H.faults host.old) (H.faults host.new) }
     ensures say_faults { H.say_faults host.new ≡ H.say_faults host.old }
 {
     let mut rows = MemRows::new(alloc);
-    let mut reader = ring.reader(0, 0);
+    let mut reader = ring.reader(start.position, start.commit);
     while reader.position < ring.end_position {
         match reader.next(host, group) {
             Ok(true) => {}

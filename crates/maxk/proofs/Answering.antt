@@ -8,7 +8,7 @@ use Rattle.mdb_model.specs.declared.script.Refusal.TheVariants.{Syntax, MemoryWa
 use Rattle.mdb_model.specs.Answers.{refused}
 use Rattle.mdb_model.specs.Runs.{Step, Stepped, Starved, may_want_memory}
 use Rattle.mdb_model.specs.Worlds.{World}
-use Rattle.mdb_bytes.specs.LogAlone.{Stands}
+use Rattle.creation.specs.Standing.{Stands}
 use Rattle.dbm_script.specs.Reading.{takes_bytes}
 use Rattle.db_kernel.specs.Stretch.{Stand, Completes}
 use Rattle.db_kernel.specs.Working.{no_pages}

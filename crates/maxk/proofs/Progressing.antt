@@ -14,7 +14,7 @@ use Rattle.mdb_model.specs.Runs.{Line, TakenLine, Run, last_worlds}
 use Rattle.mdb_model.specs.Serial.{IsSerial}
 use Rattle.mdb_model.specs.Script.{Reads, is_skipped, line_weight, script_lines, most_lines}
 use Rattle.mdb_model.specs.Worlds.{World}
-use Rattle.mdb_bytes.specs.LogAlone.{Stands}
+use Rattle.creation.specs.Standing.{Stands}
 use Rattle.db_kernel.specs.declared.database.Database.{Database}
 use Rattle.db_kernel.specs.Kept.{Fits}
 use Rattle.db_kernel.specs.Stretch.{Stand}

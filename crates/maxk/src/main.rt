@@ -1,42 +1,62 @@
-//! The program: runs a script from the standard input on the database of a folder.
+//! The program: makes a database in a folder, or runs a script from the standard input on it.
 #![tactic(auto)]
 
 mod lines;
+mod making;
 mod run;
 mod saying;
 mod window;
 mod words;
 
+use crate::making::create_database;
 use crate::run::run;
-use crate::words::is_bad_word;
+use crate::words::{Asked, Measures, read_words};
 use mdb_host::{FileHost, StdSource};
+use mdb_model::fault::Memory;
 use mdb_model::status::Status;
 use std::env;
 use std::process::ExitCode;
 
 fn main(rt: HostRuntime) -> ExitCode {
-    let Ok(mut words) = env::args(&rt) else {
+    let Ok(words) = call_words(&rt) else {
         return ExitCode::from(Status::Memory as u8);
     };
-    let _ = words.next();
-    let Some(verb) = words.next() else {
-        return usage(&rt);
+    let status = match read_words(&words) {
+        Some(Asked::Create { folder, measures }) => make(&rt, folder, &measures),
+        Some(Asked::Run { folder }) => run_script(&rt, folder),
+        None => usage(&rt),
     };
-    let Some(folder) = words.next() else {
-        return usage(&rt);
+    ExitCode::from(status as u8)
+}
+
+// The words behind the program's name.
+fn call_words(rt: &HostRuntime) -> Result<Vec<String>, Memory> {
+    let Ok(call) = env::args(rt) else {
+        return Err(Memory);
     };
-    if verb.as_str() != "run" || is_bad_word(folder.as_str()) || words.next().is_some() {
-        return usage(&rt);
+    match call.skip(1).collect(rt.alloc()) {
+        Ok(words) => Ok(words),
+        Err(_) => Err(Memory),
     }
-    let Ok(mut host) = FileHost::new(&rt, rt.alloc(), folder.as_str()) else {
-        return ExitCode::from(Status::Memory as u8);
+}
+
+fn make(rt: &HostRuntime, folder: &str, measures: &Measures) -> Status {
+    let Ok(mut host) = FileHost::new(rt, rt.alloc(), folder) else {
+        return Status::Memory;
     };
-    let mut source = StdSource::new(&rt);
-    ExitCode::from(run(rt.alloc(), &mut host, &mut source) as u8)
+    create_database(rt.alloc(), &mut host, measures)
+}
+
+fn run_script(rt: &HostRuntime, folder: &str) -> Status {
+    let Ok(mut host) = FileHost::new(rt, rt.alloc(), folder) else {
+        return Status::Memory;
+    };
+    let mut source = StdSource::new(rt);
+    run(rt.alloc(), &mut host, &mut source)
 }
 
 // Says how the program is called.
-fn usage(rt: &HostRuntime) -> ExitCode {
-    let _ = eprintln!(rt; "usage: maxk run FOLDER");
-    ExitCode::from(Status::Usage as u8)
+fn usage(rt: &HostRuntime) -> Status {
+    let _ = eprintln!(rt; "usage: maxk create FOLDER BIRTH LOGPAGES DATAPAGES.. | maxk run FOLDER");
+    Status::Usage
 }

@@ -11,7 +11,7 @@ ghost use Rattle.mdb_model.specs.Runs.{Line};
 ghost use Rattle.mdb_model.specs.Script.{is_in_range};
 ghost use Rattle.mdb_model.specs.Worlds.{World};
 ghost use Rattle.mdb_host.specs.Disk.{Disk, Keeps};
-ghost use Rattle.mdb_bytes.specs.LogAlone.{Stands};
+ghost use Rattle.creation.specs.Standing.{Stands};
 ghost use Rattle.db_kernel.specs.Kept.{Ready, Meets, Fits};
 ghost use Rattle.db_kernel.specs.Stretch.{Stand, Completes};
 ghost use Rattle.db_kernel.specs.Working.{no_pages};

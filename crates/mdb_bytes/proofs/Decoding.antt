@@ -58,3 +58,7 @@ module _ {X : Type 0} (format : Format X) where
         | Some v ↦ λ e. decoded-spells bytes v e
         | None ↦ λ e v s. (let both : None ≡ Some v = sym e ∙ spelled-decoded again bytes v s in absurd cc)
       ] refl
+
+  -- what is read back is spelled by its bytes alone
+  pub one_value : ReadsBack format → (a b : X) (bytes : List ℕ) → Spells format a bytes → Spells format b bytes → a ≡ b
+  one_value again a b bytes x y = sym (again a x.0) ∙ ap format.reads (sym x.1 ∙ y.1) ∙ again b y.0

@@ -2,7 +2,7 @@ pub mod Fields
 pub mod Groups
 pub mod LogReading
 pub mod Rings
-pub mod LogAlone
+pub mod Firsts
 pub mod LoggedChanges
 pub mod ChangeHeads
 pub mod GroupHeads
@@ -13,5 +13,11 @@ pub mod SlotRecords
 pub mod ConverterPages
 pub mod LogicalPages
 pub mod MediumPages
+pub mod TablePages
+pub mod UndoPages
+pub mod EntryPages
+pub mod SpellingLaws
+pub mod EntryHeads
+pub mod PageEntries
 pub mod Held
 pub mod Paged

@@ -1,5 +1,6 @@
 -- Logical pages: the header that all of them have, and the two of fixed fields.
 --     header_fields      the first 64 bytes
+--     own_number, count_on, used_on      what they say, whatever the kind
 --     catalogue_format, open_list_format      the catalogue and the open list
 use Rattle.std.specs.Prelude.{ℕ, ◌*◌, List, [], ◌∷◌, ◌++◌, Bool, true, ◌&&◌, ◌==◌, nat_le, length, min, map, drop}
 use Rattle.std.specs.List.{list_all}
@@ -14,6 +15,18 @@ use Rattle.mdb_bytes.specs.Parts.{page_room, table_fields, ascend_from}
 abbrev pub header_fields : (kind level table number count used next : ℕ) → List Field
 header_fields kind level table number count used next =
     Byte kind ∷ Byte level ∷ Two table ∷ Four number ∷ Two count ∷ Two used ∷ Four next ∷ Zeros 48 ∷ []
+
+-- the number of the page
+abbrev pub own_number : List ℕ → ℕ
+own_number bytes = number_at 4 4 bytes
+
+-- the number of its entries
+abbrev pub count_on : List ℕ → ℕ
+count_on bytes = number_at 2 8 bytes
+
+-- the used bytes
+abbrev pub used_on : List ℕ → ℕ
+used_on bytes = number_at 2 10 bytes
 
 -- The catalogue, which is page 0
 

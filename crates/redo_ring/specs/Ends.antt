@@ -26,6 +26,7 @@ pub record IsEndOf (start : LogStart) (end : LogEnd) : Type 0 where
   pub saved : start.saved_position ≤ end.position
   pub room : end.position < start.position + ring_size start.pages
   pub low : end.position < 2 ^ 63
+  pub grown : end.commit + start.position ≤ start.commit + end.position
   pub count : end.commit < 2 ^ 61 + end.position
 
 -- the log from a position on is whole and ends here, or it breaks off

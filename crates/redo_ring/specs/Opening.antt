@@ -3,7 +3,7 @@
 --     IsOpened      the ring that was opened from there
 --     OpenFinds      what stands in the log where it is opened, and where it is not
 --     IsWhole, OpenEnds      a log that is whole is opened
-use Rattle.std.specs.Prelude.{◌≡◌, ◌≢◌, ◌⊎◌, ℕ, ◌+◌, ◌-◌, ◌*◌, ◌^◌, ◌<◌, List, length, Result, Ok, Err}
+use Rattle.std.specs.Prelude.{◌≡◌, ◌≢◌, ◌⊎◌, ℕ, ◌+◌, ◌-◌, ◌*◌, ◌^◌, ◌<◌, ◌≤◌, List, length, Result, Ok, Err}
 use Rattle.mdb_model.specs.declared.change.Commit.{Commit}
 use Rattle.mdb_model.specs.declared.fault.Damage.{Damage}
 use Rattle.mdb_model.specs.declared.fault.OpenFault.{OpenFault}
@@ -34,6 +34,8 @@ pub record IsOpened (start : LogStart) (ring : Ring) : Type 0 where
   pub redo : ring.redo_position ≡ start.position
   pub saved : ring.saved_position ≡ start.saved_position
   pub room : ring.end_position < start.position + ring.size
+  -- a commit has more than one byte
+  pub grown : ring.last_commit + start.position ≤ start.commit + ring.end_position
 
 -- the log from a restart's beginning on and the log that is not saved are there, and they end here
 pub record HasBoth (start : LogStart) (ring : ℕ → ℕ) (end last : ℕ) : Type 0 where

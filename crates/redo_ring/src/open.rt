@@ -126,6 +126,7 @@ fn log_end<H: Host>(
     ensures calm { H.tells → Runs (H.disk host.old) (H.disk host.new) Agree }
     ensures seen { H.tells → Agree (H.disk host.old).seen (H.disk host.new).seen }
     ensures order { IfOk result (λ end. IsEnd size position end) }
+    ensures grown { IfOk result (λ end. end.commit + position ≤ commit + end.position) }
     ensures finds { H.tells → EndFinds size name (ring_byte size (H.disk host.old).seen) position commit result }
     ensures ends { H.tells → (commits : List Commit) → IsLog (ring_byte size (H.disk host.old).seen) name position commit commits → log_bytes commits < size → EndEnds position commit commits result }
     ensures later { H.faults host.old ≤ H.faults host.new }

@@ -166,6 +166,7 @@ pub(crate) fn walk<H: Host>(
     requires begins { reader.old.position ≡ reader.old.start }
     requires ring { H.tells → HasRing reader.old.size (H.disk host.old).seen }
     ensures order { IsReader reader.new }
+    ensures grown { reader.new.number + reader.old.start ≤ reader.old.number + reader.new.position }
     ensures same { (reader.new.name ≡ reader.old.name) × (reader.new.size ≡ reader.old.size) × (reader.new.start ≡ reader.old.start) }
     ensures calm { H.tells → Runs (H.disk host.old) (H.disk host.new) Agree }
     ensures seen { H.tells → Agree (H.disk host.old).seen (H.disk host.new).seen }

@@ -51,8 +51,8 @@ impl Volumes {
         self.blocks
     }
 
-    // The volume of a block, and the page there.
-    fn place_of(&self, b: u32) -> (u8, u32)
+    /// The volume of a block, from 1 on, and the page there.
+    pub fn place_of(&self, b: u32) -> (u8, u32)
         requires { b < sum self.now }
         ensures volume { result.0 ≡ (place 1 self.now b).0 }
         ensures page { result.1 ≡ (place 1 self.now b).1 }

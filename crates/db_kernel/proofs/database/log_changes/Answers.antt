@@ -9,25 +9,21 @@ use Rattle.db_kernel.proofs.database.log_changes.Goals as goal
 
 pub encode_group-requires-clause-numbers : goal.encode_group-requires-clause-numbers
 encode_group-requires-clause-numbers g c =
-    let birth : c.args.ring.now.name.birth ≡ 1 = ap (λ (n : Name). n.birth) c.requires.log.name in
-    let generation : c.args.ring.now.name.generation ≡ 1 = ap (λ (n : Name). n.generation) c.requires.log.name in
-    let order = c.requires.log.order in
-    (omega (arith, birth), omega (arith, generation), omega (arith, order.count, order.low, c.requires.log.room, order.size.is, order.size.most))
+    let log = c.requires.log in
+    (omega (arith, log.birth), omega (arith, log.generation), omega (arith, log.count, log.room, log.order.size.is, log.order.size.most))
 
 pub append-requires-clause-low : goal.append-requires-clause-low
 append-requires-clause-low g c =
-    let order = c.requires.log.order in
+    let log = c.requires.log in
     let long : length c.encode_group.new.into ≡ group_bytes c.args.changes.now =
     (group_long (record { name = c.args.ring.now.name; number = c.args.ring.now.last_commit + 1; changes = c.args.changes.now }) c.encode_group.new.into c.encode_group.ensures).0 in
-    omega (arith, long, c.requires.fit, c.requires.log.room, order.size.is, order.size.most)
+    omega (arith, long, c.requires.fit, log.room, log.low, log.order.size.is, log.order.size.most)
 
 pub returns-clause-answer : goal.returns-clause-answer
 returns-clause-answer g c =
     let long : length c.encode_group.new.into ≡ group_bytes c.args.changes.now =
     (group_long (record { name = c.args.ring.now.name; number = c.args.ring.now.last_commit + 1; changes = c.args.changes.now }) c.encode_group.new.into c.encode_group.ensures).0 in
-    let saved : c.args.ring.now.end_position - c.args.ring.now.saved_position ≡ c.args.ring.now.end_position = omega (arith, c.requires.log.saved) in
-    let redo : c.args.ring.now.end_position - c.args.ring.now.redo_position ≡ c.args.ring.now.end_position = omega (arith, c.requires.log.redo) in
-    subst (λ (p : ℕ × ℕ × ℕ). AppendAnswer c.args.ring.now.size p.0 p.1 p.2 c.append.result) (λ i. (saved i, redo i, long i)) c.append.ensures.answer
+    subst (λ (n : ℕ). AppendAnswer c.args.ring.now.size (c.args.ring.now.end_position - c.args.ring.now.saved_position) (c.args.ring.now.end_position - c.args.ring.now.redo_position) n c.append.result) long c.append.ensures.answer
 
 pub returns-clause-ok : goal.returns-clause-ok
 returns-clause-ok g c =

@@ -1,46 +1,94 @@
-use Rattle.std.proofs.Common.{◌∙◌, ◌-◌, min, arith}
-use Rattle.mdb_model.specs.declared.fault.Device.TheVariants.{Log}
+use Rattle.std.proofs.Common.{◌∙◌, ◌+◌, ◌-◌, ◌*◌, refl, sym, subst, ap, min, Err, arith}
+use Rattle.mdb_model.specs.declared.name.Name.{Name}
+use Rattle.mdb_model.specs.Images.{Image}
+use Rattle.mdb_host.proofs.Moments.{same_image}
+use Rattle.mdb_bytes.specs.LogReading.{IsLog}
+use Rattle.mdb_bytes.specs.Rings.{ring_byte}
+use Rattle.redo_ring.specs.declared.open.LogStart.{LogStart}
+use Rattle.redo_ring.specs.Opening.{ring_size}
 use Rattle.redo_ring.proofs.Places.{agree_on}
-use Rattle.db_kernel.proofs.Opened.{synced_stays, opened_refused, log_of_ring, redo_refused, redo_tells}
+use Rattle.creation.specs.Devices.{device_count}
+use Rattle.db_kernel.proofs.Opened.{found_start, found_blocks, records_whole, in_front, first_whole, ring_found, ring_refused, redo_refused, ring_refuses, redo_refuses, log_in_ring, log_opened, made_found}
+use Rattle.creation.proofs.Syncing.{all_stay}
 use Rattle.db_kernel.proofs.opening.open_database.Goals as goal
 
 pub returns-in-Err-clause-finds : goal.returns-in-Err-clause-finds
-returns-in-Err-clause-finds g c told size commits is has log small = opened_refused size commits c.in-Err.refusal (c.in-Err.ensures.finds told size commits is has log small)
+returns-in-Err-clause-finds g c told w stands = records_whole stands.site (g.H.Host.disk c.args.host.now).seen stands.records w.history.commits c.in-Err.refusal (c.in-Err.ensures.refuses told)
+
+pub returns-in-Err-clause-refuses : goal.returns-in-Err-clause-refuses
+returns-in-Err-clause-refuses g c told = in_front (g.H.Host.disk c.args.host.now).seen c.in-Err.refusal (c.in-Err.ensures.refuses told)
+
+pub returns-in-Err-open-clause-calm : goal.returns-in-Err-open-clause-calm
+returns-in-Err-open-clause-calm g c told =
+    agree_on (g.H.Host.disk c.args.host.now) (g.H.Host.disk c.find_records.new.host) (g.H.Host.disk c.open.new.host) (c.find_records.ensures.calm told) (c.open.ensures.calm told)
+
+pub returns-in-Err-open-clause-finds : goal.returns-in-Err-open-clause-finds
+returns-in-Err-open-clause-finds g c told w stands =
+    let start = found_start stands.site (g.H.Host.disk c.args.host.now).seen c.in-Ok.found stands.records (c.in-Ok.ensures.found told) in
+    let whole = first_whole c.in-Ok.found.start (g.H.Host.disk c.args.host.now).seen (g.H.Host.disk c.find_records.new.host).seen w stands start (c.find_records.ensures.seen told) in
+    ring_refused c.in-Ok.found.start stands.site w.history.commits c.in-Err-open.fault c.refusal_of.result c.refusal_of.ensures (c.in-Err-open.ensures.ends told w.history.commits w.history.commits whole)
+
+pub returns-in-Err-open-clause-refuses : goal.returns-in-Err-open-clause-refuses
+returns-in-Err-open-clause-refuses g c told =
+    ring_refuses c.in-Ok.found c.in-Err-open.fault c.refusal_of.result (g.H.Host.disk c.args.host.now).seen (g.H.Host.disk c.find_records.new.host).seen (c.in-Ok.ensures.found told) (c.find_records.ensures.seen told) (c.in-Err-open.ensures.finds told) c.refusal_of.ensures
+
+pub returns-in_default-clause-calm : goal.returns-in_default-clause-calm
+returns-in_default-clause-calm g c told =
+    agree_on (g.H.Host.disk c.args.host.now) (g.H.Host.disk c.find_records.new.host) (g.H.Host.disk c.open.new.host) (c.find_records.ensures.calm told) (c.open.ensures.calm told)
 
 pub returns-in-Ok-redo-clause-calm : goal.returns-in-Ok-redo-clause-calm
 returns-in-Ok-redo-clause-calm g c told =
-    agree_on (g.H.Host.disk c.args.host.now) (g.H.Host.disk c.open_ring.new.host) (g.H.Host.disk c.redo.new.host) (c.open_ring.ensures.calm told) (c.redo.ensures.calm told)
-
-pub returns-in-Ok-redo-clause-finds : goal.returns-in-Ok-redo-clause-finds
-returns-in-Ok-redo-clause-finds g c told size commits is has log small =
-    let found = c.in-Ok.ensures.finds told size commits is has log small in
-    let there = log_of_ring c.in-Ok.ring size (g.H.Host.disk c.args.host.now).seen (g.H.Host.disk c.open_ring.new.host).seen commits c.in-Ok.ensures.whole found.0 (c.open_ring.ensures.seen told) log in
-    record {
-      same_size = found.0;
-      at_end = found.1;
-      at_last = found.2;
-      rows = c.in-Ok-redo.ensures.all told commits there (omega (arith, small, found.0)) found.1;
-      free = c.new-in-Ok-redo.ensures.locks;
-      unchanged = c.new-in-Ok-redo.ensures.changes;
-      most = c.new-in-Ok-redo.ensures.most ∙ c.most_bytes.ensures ∙ (λ i. min 1048576 (found.0 i - 1));
-    }
+    agree_on (g.H.Host.disk c.args.host.now) (g.H.Host.disk c.find_records.new.host) (g.H.Host.disk c.redo.new.host) (c.find_records.ensures.calm told)
+    (agree_on (g.H.Host.disk c.find_records.new.host) (g.H.Host.disk c.open.new.host) (g.H.Host.disk c.redo.new.host) (c.open.ensures.calm told) (c.redo.ensures.calm told))
 
 pub returns-in-Ok-redo-clause-synced : goal.returns-in-Ok-redo-clause-synced
 returns-in-Ok-redo-clause-synced g c told =
-    synced_stays (g.H.Host.disk c.open_ring.new.host) (g.H.Host.disk c.redo.new.host) Log (c.redo.ensures.calm told) (c.redo.ensures.seen told) (c.in-Ok.ensures.synced told)
+    all_stay (g.H.Host.disk c.open.new.host) (g.H.Host.disk c.redo.new.host) device_count (c.redo.ensures.calm told) (c.redo.ensures.seen told)
+    (all_stay (g.H.Host.disk c.find_records.new.host) (g.H.Host.disk c.open.new.host) device_count (c.open.ensures.calm told) (c.open.ensures.seen told) (c.in-Ok.ensures.synced told))
+
+pub returns-in-Ok-redo-clause-finds : goal.returns-in-Ok-redo-clause-finds
+returns-in-Ok-redo-clause-finds g c told w stands =
+    let d0 = g.H.Host.disk c.args.host.now in
+    let d1 = g.H.Host.disk c.find_records.new.host in
+    let d2 = g.H.Host.disk c.open.new.host in
+    let start = found_start stands.site d0.seen c.in-Ok.found stands.records (c.in-Ok.ensures.found told) in
+    let whole = first_whole c.in-Ok.found.start d0.seen d1.seen w stands start (c.find_records.ensures.seen told) in
+    let ring = ring_found c.in-Ok.found.start c.in-Ok-open.ring stands.site w.history.commits start c.in-Ok-open.ensures.opened (c.in-Ok-open.ensures.ends told w.history.commits w.history.commits whole) in
+    record {
+      made = made_found c.in-Ok-open.ring c.in-Ok.found.blocks stands.site w.history.commits ring (found_blocks stands.site d0.seen c.in-Ok.found stands.records (c.in-Ok.ensures.found told));
+      holds = ring.holds;
+      at_end = ring.at_end;
+      at_last = ring.at_last;
+      rows = c.in-Ok-redo.ensures.all told w.history.commits (log_in_ring c.in-Ok-open.ring c.in-Ok.found.start d0.seen d2.seen w stands start ring (λ e. c.open.ensures.seen told e ∙ c.find_records.ensures.seen told e))
+          (omega (arith, stands.room, ring.size)) (omega (arith, ring.at_end, ap (λ (s : LogStart). s.position) start));
+      free = c.new-in-Ok-redo.ensures.locks;
+      unchanged = c.new-in-Ok-redo.ensures.changes;
+      most = c.new-in-Ok-redo.ensures.most ∙ c.most_bytes.ensures;
+    }
 
 pub returns-in-Err-redo-clause-calm : goal.returns-in-Err-redo-clause-calm
 returns-in-Err-redo-clause-calm g c told =
-    agree_on (g.H.Host.disk c.args.host.now) (g.H.Host.disk c.open_ring.new.host) (g.H.Host.disk c.redo.new.host) (c.open_ring.ensures.calm told) (c.redo.ensures.calm told)
+    agree_on (g.H.Host.disk c.args.host.now) (g.H.Host.disk c.find_records.new.host) (g.H.Host.disk c.redo.new.host) (c.find_records.ensures.calm told)
+    (agree_on (g.H.Host.disk c.find_records.new.host) (g.H.Host.disk c.open.new.host) (g.H.Host.disk c.redo.new.host) (c.open.ensures.calm told) (c.redo.ensures.calm told))
 
 pub returns-in-Err-redo-clause-finds : goal.returns-in-Err-redo-clause-finds
-returns-in-Err-redo-clause-finds g c told size commits is has log small =
-    let found = c.in-Ok.ensures.finds told size commits is has log small in
-    let there = log_of_ring c.in-Ok.ring size (g.H.Host.disk c.args.host.now).seen (g.H.Host.disk c.open_ring.new.host).seen commits c.in-Ok.ensures.whole found.0 (c.open_ring.ensures.seen told) log in
-    redo_refused size commits c.in-Err-redo.fault c.refusal_of.result c.refusal_of.ensures (c.in-Err-redo.ensures.all told commits there (omega (arith, small, found.0)) found.1)
+returns-in-Err-redo-clause-finds g c told w stands =
+    let d0 = g.H.Host.disk c.args.host.now in
+    let d1 = g.H.Host.disk c.find_records.new.host in
+    let d2 = g.H.Host.disk c.open.new.host in
+    let start = found_start stands.site d0.seen c.in-Ok.found stands.records (c.in-Ok.ensures.found told) in
+    let whole = first_whole c.in-Ok.found.start d0.seen d1.seen w stands start (c.find_records.ensures.seen told) in
+    let ring = ring_found c.in-Ok.found.start c.in-Ok-open.ring stands.site w.history.commits start c.in-Ok-open.ensures.opened (c.in-Ok-open.ensures.ends told w.history.commits w.history.commits whole) in
+    redo_refused stands.site w.history.commits c.in-Err-redo.fault c.refusal_of-in-Err-redo.result c.refusal_of-in-Err-redo.ensures
+    (c.in-Err-redo.ensures.all told w.history.commits (log_in_ring c.in-Ok-open.ring c.in-Ok.found.start d0.seen d2.seen w stands start ring (λ e. c.open.ensures.seen told e ∙ c.find_records.ensures.seen told e))
+    (omega (arith, stands.room, ring.size)) (omega (arith, ring.at_end, ap (λ (s : LogStart). s.position) start)))
 
-pub returns-in-Err-redo-clause-damage : goal.returns-in-Err-redo-clause-damage
-returns-in-Err-redo-clause-damage g c told =
-    let there = c.in-Ok.ensures.log told in
-    redo_tells (g.H.Host.disk c.args.host.now).seen there.0 c.in-Err-redo.fault c.refusal_of.result c.refusal_of.ensures
-    (c.in-Err-redo.ensures.all told there.0 there.1.log there.1.room (omega (arith, there.1.ends)))
+pub returns-in-Err-redo-clause-refuses : goal.returns-in-Err-redo-clause-refuses
+returns-in-Err-redo-clause-refuses g c told =
+    let opened = c.in-Ok-open.ensures.opened in
+    let d1 = g.H.Host.disk c.find_records.new.host in
+    let d2 = g.H.Host.disk c.open.new.host in
+    let both = c.in-Ok-open.ensures.finds told in
+    redo_refuses (g.H.Host.disk c.args.host.now).seen both.commits c.in-Err-redo.fault c.refusal_of-in-Err-redo.result c.refusal_of-in-Err-redo.ensures
+    (c.in-Err-redo.ensures.all told both.commits (log_opened c.in-Ok-open.ring c.in-Ok.found.start d1.seen d2.seen both.commits opened (c.open.ensures.seen told) both.log.log)
+    (omega (arith, both.log.room, opened.size)) (omega (arith, both.log.ends)))

@@ -23,16 +23,16 @@ pub returns-in-Ok-false-clause-all : goal.returns-in-Ok-false-clause-all
 returns-in-Ok-false-clause-all g c told commits log small ends =
     let inv = c.loop-reader.invariant in
     let left = inv.left told commits log small in
-    redoing_none c.args.ring.now.size c.args.ring.now.name (ring_byte c.args.ring.now.size (g.H.Host.disk c.args.host.now).seen) commits c.loop-reader.reader.position c.loop-reader.reader.number c.loop-reader.rows.rows c.next.new.into (Ok c.in-Ok-false.field-0) left
-    (next_left c.args.ring.now.size c.loop-reader.reader.size c.loop-reader.reader.start c.args.ring.now.name c.loop-reader.reader.name (g.H.Host.disk c.args.host.now).seen (g.H.Host.disk c.loop-reader.host).seen inv.size inv.name inv.start (inv.seen told) commits c.loop-reader.reader.position c.loop-reader.reader.number c.loop-reader.rows.rows left small c.next.new.into (Ok c.in-Ok-false.field-0) (c.in-Ok-false.ensures.next told))
+    redoing_none c.args.ring.now.size c.args.ring.now.name (ring_byte c.args.ring.now.size (g.H.Host.disk c.args.host.now).seen) c.args.start.now.position commits c.loop-reader.reader.position c.loop-reader.reader.number c.loop-reader.rows.rows c.next.new.into (Ok c.in-Ok-false.field-0) left
+    (next_left c.args.ring.now.size c.loop-reader.reader.size c.args.start.now.position c.loop-reader.reader.start c.args.ring.now.name c.loop-reader.reader.name (g.H.Host.disk c.args.host.now).seen (g.H.Host.disk c.loop-reader.host).seen inv.size inv.name inv.start (inv.seen told) commits c.loop-reader.reader.position c.loop-reader.reader.number c.loop-reader.rows.rows left small c.next.new.into (Ok c.in-Ok-false.field-0) (c.in-Ok-false.ensures.next told))
     (ap Ok c.in-Ok-false.field-0-test)
 
 pub returns-in-Err-Damaged-clause-all : goal.returns-in-Err-Damaged-clause-all
 returns-in-Err-Damaged-clause-all g c told commits log small ends =
     let inv = c.loop-reader.invariant in
     let left = inv.left told commits log small in
-    redoing_damaged c.args.ring.now.size c.args.ring.now.name (ring_byte c.args.ring.now.size (g.H.Host.disk c.args.host.now).seen) commits c.loop-reader.reader.position c.loop-reader.reader.number left.rest c.next.new.into c.in-Err-Damaged.field-0 c.in-Err-Damaged.damage
-    (next_left c.args.ring.now.size c.loop-reader.reader.size c.loop-reader.reader.start c.args.ring.now.name c.loop-reader.reader.name (g.H.Host.disk c.args.host.now).seen (g.H.Host.disk c.loop-reader.host).seen inv.size inv.name inv.start (inv.seen told) commits c.loop-reader.reader.position c.loop-reader.reader.number c.loop-reader.rows.rows left small c.next.new.into (Err c.in-Err-Damaged.field-0) (c.in-Err-Damaged.ensures.next told))
+    redoing_damaged c.args.ring.now.size c.args.ring.now.name (ring_byte c.args.ring.now.size (g.H.Host.disk c.args.host.now).seen) c.args.start.now.position commits c.loop-reader.reader.position c.loop-reader.reader.number left.rest c.next.new.into c.in-Err-Damaged.field-0 c.in-Err-Damaged.damage
+    (next_left c.args.ring.now.size c.loop-reader.reader.size c.args.start.now.position c.loop-reader.reader.start c.args.ring.now.name c.loop-reader.reader.name (g.H.Host.disk c.args.host.now).seen (g.H.Host.disk c.loop-reader.host).seen inv.size inv.name inv.start (inv.seen told) commits c.loop-reader.reader.position c.loop-reader.reader.number c.loop-reader.rows.rows left small c.next.new.into (Err c.in-Err-Damaged.field-0) (c.in-Err-Damaged.ensures.next told))
     c.in-Err-Damaged.field-0-is
 
 pub loop-reader-smaller : goal.loop-reader-smaller
@@ -56,8 +56,8 @@ loop-reader-preserved g c =
       seen = λ told e. c.next.ensures.seen told e ∙ inv.seen told e;
       left = λ told commits log small.
           let left = inv.left told commits log small in
-          redoing_on c.args.ring.now.size c.args.ring.now.name (ring_byte c.args.ring.now.size (g.H.Host.disk c.args.host.now).seen) commits c.loop-reader.reader.position c.loop-reader.reader.number c.next.new.self.position c.next.new.self.number c.loop-reader.rows.rows c.redo_group.new.rows.rows c.next.new.into (Ok c.in-Ok-true.field-0) c.in-Ok.field-0 left
-          (next_left c.args.ring.now.size c.loop-reader.reader.size c.loop-reader.reader.start c.args.ring.now.name c.loop-reader.reader.name (g.H.Host.disk c.args.host.now).seen (g.H.Host.disk c.loop-reader.host).seen inv.size inv.name inv.start (inv.seen told) commits c.loop-reader.reader.position c.loop-reader.reader.number c.loop-reader.rows.rows left small c.next.new.into (Ok c.in-Ok-true.field-0) (c.in-Ok-true.ensures.next told))
+          redoing_on c.args.ring.now.size c.args.ring.now.name (ring_byte c.args.ring.now.size (g.H.Host.disk c.args.host.now).seen) c.args.start.now.position commits c.loop-reader.reader.position c.loop-reader.reader.number c.next.new.self.position c.next.new.self.number c.loop-reader.rows.rows c.redo_group.new.rows.rows c.next.new.into (Ok c.in-Ok-true.field-0) c.in-Ok.field-0 left
+          (next_left c.args.ring.now.size c.loop-reader.reader.size c.args.start.now.position c.loop-reader.reader.start c.args.ring.now.name c.loop-reader.reader.name (g.H.Host.disk c.args.host.now).seen (g.H.Host.disk c.loop-reader.host).seen inv.size inv.name inv.start (inv.seen told) commits c.loop-reader.reader.position c.loop-reader.reader.number c.loop-reader.rows.rows left small c.next.new.into (Ok c.in-Ok-true.field-0) (c.in-Ok-true.ensures.next told))
           (ap Ok c.in-Ok-true.field-0-test) at count c.in-Ok.ensures;
       faults = omega (arith, inv.faults, c.next.ensures.later);
       say_faults = omega (arith, inv.say_faults, c.next.ensures.say_faults);
@@ -66,4 +66,4 @@ loop-reader-preserved g c =
 pub returns-clause-all : goal.returns-clause-all
 returns-clause-all g c told commits log small ends =
     let left = c.loop-reader.invariant.left told commits log small in
-    redoing_whole c.args.ring.now.size c.args.ring.now.name (ring_byte c.args.ring.now.size (g.H.Host.disk c.args.host.now).seen) commits c.loop-reader.reader.position c.loop-reader.reader.number c.loop-reader.rows.rows left (omega (arith, c.loop-reader-test.false, ends))
+    redoing_whole c.args.ring.now.size c.args.ring.now.name (ring_byte c.args.ring.now.size (g.H.Host.disk c.args.host.now).seen) c.args.start.now.position commits c.loop-reader.reader.position c.loop-reader.reader.number c.loop-reader.rows.rows left (omega (arith, c.loop-reader-test.false, ends))

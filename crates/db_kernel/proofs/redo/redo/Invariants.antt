@@ -12,11 +12,11 @@ invariant-loop-reader g l = record {
   order : IsReader l.reader;
   name : l.reader.name ≡ l.fn.ring.name;
   size : l.reader.size ≡ l.fn.ring.size;
-  start : l.reader.start ≡ 0;
+  start : l.reader.start ≡ l.fn.start.position;
   calm : g.H.Host.tells → Goes (g.H.Host.disk l.fn.host) (g.H.Host.disk l.host) Agree;
   seen : g.H.Host.tells → Agree (g.H.Host.disk l.fn.host).seen (g.H.Host.disk l.host).seen;
-  left : g.H.Host.tells → (commits : List Commit) → IsLog (ring_byte l.fn.ring.size (g.H.Host.disk l.fn.host).seen) l.fn.ring.name 0 0 commits → log_bytes commits < l.fn.ring.size
-      → Redoing l.fn.ring.size l.fn.ring.name (ring_byte l.fn.ring.size (g.H.Host.disk l.fn.host).seen) commits l.reader.position l.reader.number l.rows.rows;
+  left : g.H.Host.tells → (commits : List Commit) → IsLog (ring_byte l.fn.ring.size (g.H.Host.disk l.fn.host).seen) l.fn.ring.name l.fn.start.position l.fn.start.commit commits → log_bytes commits < l.fn.ring.size
+      → Redoing l.fn.ring.size l.fn.ring.name (ring_byte l.fn.ring.size (g.H.Host.disk l.fn.host).seen) l.fn.start.position commits l.reader.position l.reader.number l.rows.rows;
   faults : g.H.Host.faults l.fn.host ≤ g.H.Host.faults l.host;
   say_faults : g.H.Host.say_faults l.host ≡ g.H.Host.say_faults l.fn.host;
 }

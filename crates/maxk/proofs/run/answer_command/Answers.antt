@@ -8,7 +8,7 @@ use Rattle.mdb_model.specs.Answers.{Answer, plain}
 use Rattle.mdb_model.specs.Causes.{Rose}
 use Rattle.mdb_model.specs.Images.{Image}
 use Rattle.mdb_model.specs.Text.{text_of}
-use Rattle.mdb_bytes.specs.LogAlone.{Stands}
+use Rattle.creation.specs.Standing.{Stands}
 use Rattle.db_kernel.specs.Kept.{Meets, Fits, AreKeyed, answer_of, scanned_rows}
 use Rattle.db_kernel.specs.Sessions.{scan_answer}
 use Rattle.db_kernel.specs.Stretch.{Completes}

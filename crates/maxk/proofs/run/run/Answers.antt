@@ -5,7 +5,7 @@ use Rattle.db_kernel.specs.declared.kernel.Kernel.{Kernel}
 use Rattle.mdb_model.specs.Agreement.{Ages}
 use Rattle.mdb_model.specs.Worlds.{World}
 use Rattle.mdb_model.specs.declared.status.Status.TheVariants.{Memory}
-use Rattle.mdb_bytes.specs.LogAlone.{Stands}
+use Rattle.creation.specs.Standing.{Stands}
 use Rattle.db_kernel.specs.declared.database.Database.{Database}
 use Rattle.db_kernel.specs.Kept.{Ready, Meets, Fits}
 use Rattle.db_kernel.specs.Working.{no_pages}

@@ -1,7 +1,7 @@
 use Rattle.std.proofs.Common.{◌≡◌, ◌-◌, ◌≤◌, ℕ, List, Some}
 use Rattle.mdb_host.specs.Disk.{Keeps}
 use Rattle.mdb_model.specs.Worlds.{World}
-use Rattle.mdb_bytes.specs.LogAlone.{Stands}
+use Rattle.creation.specs.Standing.{Stands}
 use Rattle.db_kernel.specs.Kept.{AreOff, Ready, Meets}
 use Rattle.db_kernel.specs.Stretch.{Stand}
 use Rattle.db_kernel.specs.Working.{no_pages}

@@ -25,6 +25,7 @@ loop-reader-preserved g c =
       name = ap (λ (r : RingReader). r.name) went ∙ inv.name;
       size = ap (λ (r : RingReader). r.size) went ∙ inv.size;
       start = ap (λ (r : RingReader). r.start) went ∙ inv.start;
+      grown = omega (arith, inv.grown, at, count, group_has c.loop-reader.reader.name (c.loop-reader.reader.number + 1) c.next.new.into (c.in-Ok-true.ensures.group c.in-Ok-true.field-0-test));
       calm = λ told. agree_on (g.H.Host.disk c.args.host.now) (g.H.Host.disk c.loop-reader.host) (g.H.Host.disk c.next.new.host) (inv.calm told) (c.next.ensures.calm told);
       seen = λ told e. c.next.ensures.seen told e ∙ inv.seen told e;
       walked = λ told. walked_on c.args.reader.now.size c.args.reader.now.name (ring_byte c.args.reader.now.size (g.H.Host.disk c.args.host.now).seen) c.args.reader.now.start c.args.reader.now.number c.loop-reader.reader.position c.loop-reader.reader.number c.next.new.self.position c.next.new.self.number c.next.new.into (Ok c.in-Ok-true.field-0) (inv.walked told)
@@ -37,6 +38,11 @@ loop-reader-preserved g c =
       faults = omega (arith, inv.faults, c.next.ensures.later);
       say_faults = omega (arith, inv.say_faults, c.next.ensures.say_faults);
     }
+
+pub returns-in-Ok-false-clause-grown : goal.returns-in-Ok-false-clause-grown
+returns-in-Ok-false-clause-grown g c =
+    let still = stayed c.loop-reader.reader c.next.new.self c.next.new.into c.in-Ok-false.field-0 c.in-Ok-false.field-0-test c.in-Ok-false.ensures.goes in
+    omega (arith, c.loop-reader.invariant.grown, ap (λ (r : RingReader). r.position) still, ap (λ (r : RingReader). r.number) still)
 
 pub returns-in-Ok-false-clause-calm : goal.returns-in-Ok-false-clause-calm
 returns-in-Ok-false-clause-calm g c told = agree_on (g.H.Host.disk c.args.host.now) (g.H.Host.disk c.loop-reader.host) (g.H.Host.disk c.next.new.host) (c.loop-reader.invariant.calm told) (c.next.ensures.calm told)

@@ -13,6 +13,7 @@ invariant-loop-reader g l = record {
   name : l.reader.name ≡ l.fn.reader.name;
   size : l.reader.size ≡ l.fn.reader.size;
   start : l.reader.start ≡ l.fn.reader.start;
+  grown : l.reader.number + l.fn.reader.start ≤ l.fn.reader.number + l.reader.position;
   calm : g.H.Host.tells → Goes (g.H.Host.disk l.fn.host) (g.H.Host.disk l.host) Agree;
   seen : g.H.Host.tells → Agree (g.H.Host.disk l.fn.host).seen (g.H.Host.disk l.host).seen;
   walked : g.H.Host.tells → Walked l.fn.reader.size l.fn.reader.name (ring_byte l.fn.reader.size (g.H.Host.disk l.fn.host).seen) l.fn.reader.start l.fn.reader.number l.reader.position l.reader.number;

@@ -1,17 +1,12 @@
-use Rattle.std.proofs.Common.{sym, subst, Some}
+use Rattle.std.proofs.Common.{refl, Some}
 use Rattle.mdb_model.specs.declared.script.Command.TheVariants.{DelRow}
-use Rattle.mdb_model.specs.declared.script.Reply.{Reply}
 use Rattle.mdb_model.specs.Answers.{plain}
-use Rattle.db_kernel.specs.Sessions.{IsOpen}
-use Rattle.db_kernel.specs.Working.{Moves}
-use Rattle.db_kernel.proofs.Moving.{no_page, rows_same, del_moves}
+use Rattle.db_kernel.proofs.Kernels.{kernel_admin, kernel_online}
 use Rattle.db_kernel.proofs.database.Database.del.Goals as goal
 
-pub returns-clause-moves : goal.returns-clause-moves
-returns-clause-moves c ws at =
-    let d = c.args.self.now in
-    let met = no_page (Unit {0}) ⊥ c.del-found.result tt (λ never. never) c.del-found.ensures.cause.whole c.del-found.ensures.quiet in
-    let does = c.del-found.ensures.does in
-    subst (λ (r : Reply). Moves ws (Some (DelRow c.args.session c.args.table c.args.key.now)) (plain r) (IsOpen c.del-found.new.rows.rows c.del-found.new.self d.ring.size d.ring.end_position d.ring.last_commit)) (sym c.del_answer.ensures)
-    (del_moves d.rows.rows d.transactions d.ring.size d.ring.end_position d.ring.last_commit ws at c.del-found.new.rows.rows c.del-found.new.self
-    (rows_same c.del-found.result d.rows.rows c.del-found.new.rows.rows met c.del-found.ensures.same) c.args.session c.requires.session c.args.table c.args.key.now does.0 c.del-found.result does.1 (does.2 tt) met)
+pub returns-in-Admin-clause-moves : goal.returns-in-Admin-clause-moves
+returns-in-Admin-clause-moves c ws fit = kernel_admin c.args.self.now c.in-Admin.is ws (DelRow c.args.session c.args.table c.args.key.now) refl refl fit
+
+pub returns-in-Online-clause-moves : goal.returns-in-Online-clause-moves
+returns-in-Online-clause-moves c ws fit =
+    kernel_online c.args.self.now c.del_row.new.self c.in-Online.is c.del_row.ensures.access c.del_row.ensures.ring ws (Some (DelRow c.args.session c.args.table c.args.key.now)) (plain c.del_row.result) fit (c.del_row.ensures.moves ws)

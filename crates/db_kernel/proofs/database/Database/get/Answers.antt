@@ -1,17 +1,12 @@
-use Rattle.std.proofs.Common.{sym, subst, Some}
+use Rattle.std.proofs.Common.{refl, Some}
 use Rattle.mdb_model.specs.declared.script.Command.TheVariants.{GetRow}
-use Rattle.mdb_model.specs.declared.script.Reply.{Reply}
 use Rattle.mdb_model.specs.Answers.{plain}
-use Rattle.db_kernel.specs.Sessions.{IsOpen}
-use Rattle.db_kernel.specs.Working.{Moves}
-use Rattle.db_kernel.proofs.Moving.{no_page, rows_same, get_moves}
+use Rattle.db_kernel.proofs.Kernels.{kernel_admin, kernel_online}
 use Rattle.db_kernel.proofs.database.Database.get.Goals as goal
 
-pub returns-clause-moves : goal.returns-clause-moves
-returns-clause-moves c ws at =
-    let d = c.args.self.now in
-    let met = no_page (Unit {0}) ⊥ c.get-found.result tt (λ never. never) c.get-found.ensures.cause.whole c.get-found.ensures.quiet in
-    subst (λ (r : Reply). Moves ws (Some (GetRow c.args.session c.args.table c.args.key.now)) (plain r) (IsOpen c.get-found.new.rows.rows c.get-found.new.self d.ring.size d.ring.end_position d.ring.last_commit)) (sym c.get_answer.ensures)
-    (get_moves d.rows.rows d.transactions d.ring.size d.ring.end_position d.ring.last_commit ws at c.get-found.new.rows.rows c.get-found.new.self
-    (rows_same c.get-found.result d.rows.rows c.get-found.new.rows.rows met c.get-found.ensures.same) c.args.session c.requires.session c.args.table c.args.key.now c.get-found.result c.get-found.new.into.items
-    c.get-found.ensures.locks (c.get-found.ensures.found tt) met)
+pub returns-in-Admin-clause-moves : goal.returns-in-Admin-clause-moves
+returns-in-Admin-clause-moves c ws fit = kernel_admin c.args.self.now c.in-Admin.is ws (GetRow c.args.session c.args.table c.args.key.now) refl refl fit
+
+pub returns-in-Online-clause-moves : goal.returns-in-Online-clause-moves
+returns-in-Online-clause-moves c ws fit =
+    kernel_online c.args.self.now c.get_row.new.self c.in-Online.is c.get_row.ensures.access c.get_row.ensures.ring ws (Some (GetRow c.args.session c.args.table c.args.key.now)) (plain c.get_row.result) fit (c.get_row.ensures.moves ws)

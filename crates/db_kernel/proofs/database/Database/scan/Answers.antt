@@ -1,40 +1,35 @@
-use Rattle.std.proofs.Common.{sym, subst, refl, ap, List, IsTrue, Some, length, arith}
+use Rattle.std.proofs.Common.{◌≡◌, ◌∙◌, refl, sym, subst, ap, ◌+◌, ◌<◌, List, Some, IsTrue, length, arith}
 use Rattle.std.specs.List.{list_all}
-use Rattle.std.specs.FinMap.{FinMap, values}
+use Rattle.std.specs.FinMap.{values}
 use Rattle.mdb_model.specs.declared.change.Change.{Change}
-use Rattle.mdb_model.specs.Tables.{place_cmp, with_changes}
+use Rattle.mdb_model.specs.declared.script.Command.TheVariants.{ScanTable}
 use Rattle.mdb_bytes.specs.Groups.{change_fits}
 use Rattle.transactions.specs.Ongoing.{changes_of}
+use Rattle.db_kernel.specs.declared.database.Access.{Access}
+use Rattle.db_kernel.specs.Kept.{IsIn}
+use Rattle.db_kernel.specs.Sessions.{scan_answer, seen_rows}
+use Rattle.db_kernel.proofs.Counting.{few_seen}
 use Rattle.db_kernel.proofs.Keys.{keys_after}
-use Rattle.mdb_model.specs.declared.script.Command.TheVariants.{ScanTable}
-use Rattle.mdb_model.specs.declared.script.Reply.{Reply}
-use Rattle.db_kernel.specs.Damages.{IsInside}
-use Rattle.db_kernel.specs.Sessions.{HasKeys, IsOpen, scan_answer, seen_rows}
-use Rattle.db_kernel.specs.Working.{Moves}
-use Rattle.db_kernel.proofs.Moving.{none_met, scan_inside, scan_moves}
-use Rattle.db_kernel.proofs.Counting.{few_rows, changes_kept}
+use Rattle.db_kernel.proofs.Kernels.{kernel_admin, kernel_online, keys_in}
 use Rattle.db_kernel.proofs.database.Database.scan.Goals as goal
 
-pub returns-clause-moves : goal.returns-clause-moves
-returns-clause-moves c ws at =
-    let d = c.args.self.now in
-    let met = none_met c.scan.result c.scan.ensures.no_page in
-    subst (λ (r : Reply). Moves ws (Some (ScanTable c.args.session c.args.table)) (scan_answer (seen_rows d.rows.rows c.scan.new.self c.args.session.0) c.args.table r) (IsOpen d.rows.rows c.scan.new.self d.ring.size d.ring.end_position d.ring.last_commit)) (sym c.scan_opened.ensures)
-    (scan_moves d.rows.rows d.transactions d.ring.size d.ring.end_position d.ring.last_commit ws at d.rows.rows c.scan.new.self refl c.args.session c.requires.session c.args.table c.scan.result c.scan.ensures.locks met)
+pub returns-in-Admin-clause-moves : goal.returns-in-Admin-clause-moves
+returns-in-Admin-clause-moves c ws fit = kernel_admin c.args.self.now c.in-Admin.is ws (ScanTable c.args.session c.args.table) refl refl fit
 
-pub returns-clause-few : goal.returns-clause-few
-returns-clause-few c =
+pub returns-in-Admin-clause-keyed : goal.returns-in-Admin-clause-keyed
+returns-in-Admin-clause-keyed c ws fit =
     let d = c.args.self.now in
-    few_rows d.rows.rows d.transactions c.scan.new.self c.args.session c.args.table c.scan.result c.scan.ensures.locks (none_met c.scan.result c.scan.ensures.no_page) c.len.result c.len.ensures.len c.len.ensures.few
-    (length c.changes.result.now) (ap length c.changes.ensures.value) (omega (arith, c.changes.type_inv.1))
+    keys_after (values (changes_of d.transactions c.args.session.0)) d.rows.rows (subst (λ (cs : List Change). IsTrue (list_all change_fits cs)) c.changes.ensures.value c.changes.ensures.each_fits) (keys_in d.access d ws fit.at)
 
-pub returns-clause-inside : goal.returns-clause-inside
-returns-clause-inside c =
-    subst (λ (r : Reply). IsInside r) (sym c.scan_opened.ensures) (scan_inside c.scan.result (none_met c.scan.result c.scan.ensures.no_page))
-
-pub returns-clause-keyed : goal.returns-clause-keyed
-returns-clause-keyed c ws at =
+pub returns-in-Admin-clause-few : goal.returns-in-Admin-clause-few
+returns-in-Admin-clause-few c =
     let d = c.args.self.now in
-    let same = changes_kept d.transactions c.scan.new.self c.args.session c.args.table c.scan.result c.scan.ensures.locks (none_met c.scan.result c.scan.ensures.no_page) in
-    subst (λ (net : FinMap place_cmp Change). HasKeys (with_changes (values net) d.rows.rows)) (sym same)
-    (keys_after (values (changes_of d.transactions c.args.session.0)) d.rows.rows (subst (λ (cs : List Change). IsTrue (list_all change_fits cs)) c.changes.ensures.value c.changes.ensures.each_fits) at.keys)
+    few_seen d.rows.rows d.transactions c.args.session c.args.table c.len.result c.len.ensures.len c.len.ensures.few (length c.changes.result.now) (ap length c.changes.ensures.value) (omega (arith, c.changes.type_inv.1))
+
+pub returns-in-Online-clause-moves : goal.returns-in-Online-clause-moves
+returns-in-Online-clause-moves c ws fit =
+    kernel_online c.args.self.now c.lock_table.new.self c.in-Online.is c.lock_table.ensures.access c.lock_table.ensures.ring ws (Some (ScanTable c.args.session c.args.table))
+    (scan_answer (seen_rows c.lock_table.new.self.rows.rows c.lock_table.new.self.transactions c.args.session.0) c.args.table c.lock_table.result) fit (c.lock_table.ensures.moves ws)
+
+pub returns-in-Online-clause-keyed : goal.returns-in-Online-clause-keyed
+returns-in-Online-clause-keyed c ws fit = c.lock_table.ensures.keyed ws (subst (λ (a : Access). IsIn a c.args.self.now ws) c.in-Online.is fit.at)

@@ -1,11 +1,14 @@
 use Rattle.std.proofs.Common.{rules, ◌≡◌, sym, subst, Some, false}
 use Rattle.mdb_model.specs.declared.script.Command.{Command}
-use Rattle.mdb_model.specs.declared.script.Command.TheVariants.{GetRow, PutRow, DelRow, ScanTable, RollbackWork, Kill}
+use Rattle.mdb_model.specs.declared.script.Command.TheVariants.{GetRow, PutRow, DelRow, ScanTable, RollbackWork, DbOffline, DbState, Kill}
 use Rattle.mdb_model.specs.declared.script.Refusal.TheVariants.{Syntax}
-use Rattle.mdb_model.specs.declared.script.Reply.TheVariants.{Refused}
+use Rattle.mdb_model.specs.declared.script.Reply.TheVariants.{Refused, StateIs}
 use Rattle.mdb_model.specs.Answers.{Answer, plain, refused}
 use Rattle.mdb_model.specs.Stages.{is_built}
-use Rattle.mdb_bytes.specs.LogAlone.{Stands}
+use Rattle.creation.specs.Standing.{Stands}
+use Rattle.mdb_model.specs.declared.name.State.{State}
+use Rattle.db_kernel.specs.Access.{state_of}
+use Rattle.db_kernel.proofs.Kernels.{kernel_told}
 use Rattle.db_kernel.specs.Kept.{Fits, answer_of, scanned_rows}
 use Rattle.db_kernel.specs.Sessions.{scan_answer}
 use Rattle.db_kernel.specs.Stretch.{Completes}
@@ -49,8 +52,22 @@ returns-in-Kill-clause-does g c told ws fit stand =
     subst (λ (line : Command). Completes no_pages Stands d d ws (Some line) (answer_of line c.kill.new.self.database c.kill.result) (Fits c.kill.new.self.database)) (sym c.in-Kill.is)
     (completes d ws (Some Kill) (plain c.kill.result) (Fits c.kill.new.self.database) (c.kill.ensures.moves ws fit) stand)
 
-pub returns-in-DbAdmin-clause-does : goal.returns-in-DbAdmin-clause-does
-returns-in-DbAdmin-clause-does g c told ws fit stand =
+pub returns-in-DbOffline-clause-does : goal.returns-in-DbOffline-clause-does
+returns-in-DbOffline-clause-does g c told ws fit stand =
+    let d = g.H.Host.disk c.args.host.now in
+    subst (λ (line : Command). Completes no_pages Stands d d ws (Some line) (answer_of line c.go_offline.new.self.database c.go_offline.result) (Fits c.go_offline.new.self.database)) (sym c.in-DbOffline.is)
+    (completes d ws (Some DbOffline) (plain c.go_offline.result) (Fits c.go_offline.new.self.database) (c.go_offline.ensures.moves ws fit) stand)
+
+pub returns-in-DbState-clause-does : goal.returns-in-DbState-clause-does
+returns-in-DbState-clause-does g c told ws fit stand =
+    let d = g.H.Host.disk c.args.host.now in
+    let k = c.args.self.now.database in
+    subst (λ (line : Command). Completes no_pages Stands d d ws (Some line) (answer_of line k (StateIs c.state.result)) (Fits k)) (sym c.in-DbState.is)
+    (subst (λ (s : State). Completes no_pages Stands d d ws (Some DbState) (plain (StateIs s)) (Fits k)) (sym c.state.ensures)
+    (completes d ws (Some DbState) (plain (StateIs (state_of k))) (Fits k) (kernel_told k ws fit) stand))
+
+pub returns-in-MakeSavepoint-clause-does : goal.returns-in-MakeSavepoint-clause-does
+returns-in-MakeSavepoint-clause-does g c told ws fit stand =
     let d = g.H.Host.disk c.args.host.now in
     let unbuilt : is_built c.args.line.now ≡ false = search rules in
     let same : answer_of c.args.line.now c.args.self.now.database (Refused Syntax) ≡ refused Syntax = search rules in

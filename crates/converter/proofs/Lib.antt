@@ -1,0 +1,7 @@
+pub mod Runs
+pub mod Left
+pub mod Sound
+pub mod Followed
+pub mod Spelled
+pub mod Loaded
+pub mod OwnSteps

@@ -1,0 +1,6 @@
+use Rattle.std.proofs.Common.{◌≡◌, ℕ, ◌<◌, ◌≤◌}
+use Rattle.converter.specs.Maps.{no_entry, entry_at}
+use Rattle.converter.proofs.load.none_from.Given as goal
+
+abbrev pub invariant-loop-k : goal.invariant-loop-k
+invariant-loop-k l = (j : ℕ) → j < l.k → l.from ≤ j → entry_at l.entries j ≡ no_entry

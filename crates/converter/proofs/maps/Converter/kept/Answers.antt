@@ -1,0 +1,18 @@
+use Rattle.std.proofs.Common.{◌≡◌, ◌<◌, ◌↔◌, ◌||◌, ◌∙◌, List, length, ap, arith, subst, sym}
+use Rattle.std.specs.Prelude.{IsTrue}
+use Rattle.std.proofs.lemmas.List.{get_or_read}
+use Rattle.mdb_bytes.specs.declared.converter_pages.ConverterEntry.{ConverterEntry}
+use Rattle.converter.specs.Maps.{Maps, IsKept, entry_at, block_of}
+use Rattle.converter.proofs.Sound.{kept_iff}
+use Rattle.converter.proofs.maps.Converter.kept.Goals as goal
+
+pub returns : goal.returns
+returns c =
+    let q = c.index.result.now in
+    let b = c.args.b in
+    let lt : b < length c.self.inside.owner.items = omega (arith, ap (λ (m : Maps). length m.owner) c.self.view_is, c.requires.below) in
+    let frozen = c.frozen_entries.ensures q ∙ ap (λ (m : Maps). entry_at m.frozen q) (sym c.self.view_is) in
+    subst (λ (m : Maps). IsTrue (c.is_at-saved.result || c.is_at-frozen.result) ↔ IsKept m b) c.self.view_is
+    (kept_iff _ b q c.self.invariant.sound c.requires.some (get_or_read c.self.inside.owner.items b q lt c.index.ensures 0) c.is_at-saved.result c.is_at-frozen.result
+    (subst (λ (l : List ConverterEntry). IsTrue c.is_at-saved.result ↔ (block_of l q ≡ b)) c.deref.ensures.value c.is_at-saved.ensures)
+    (subst (λ (e : ConverterEntry). IsTrue c.is_at-frozen.result ↔ (e.block ≡ b)) frozen c.is_at-frozen.ensures))

@@ -1,0 +1,4 @@
+pub mod Maps
+pub mod Tree
+pub mod Own
+pub mod Loads

@@ -1,0 +1,361 @@
+//! The maps from pages to blocks.
+ghost use Rattle.std.specs.Prelude.{◌≡◌, ◌≢◌, ◌⊎◌, ◌↔◌, ℕ, ◌+◌, ◌-◌, ◌*◌, ◌/◌, ◌<◌, ◌≤◌, ◌^◌, length, replicate, IfOk, IsTrue, MatchOption, Some, None, slice_set, false};
+ghost use Rattle.free_blocks.specs.Free.{IsFree, free_count};
+ghost use Rattle.converter.specs.Maps.{Maps, IsSound, no_entry, entry_at, block_of, IsKept, IsUsed, IsOpenTo, AreUnused, Leaves, Given, empty_maps, with_own, with_loaded, settled, own_of};
+ghost use Rattle.mdb_bytes.specs.ConverterPages.{converter_entry_fits};
+ghost use Rattle.converter.specs.Tree.{Took, IsSameLeaf};
+ghost use Rattle.converter.specs.Loads.{IsOff, IsLoading};
+
+use crate::kept::{
+    KeptMap, LEAVES, NO_ENTRY, PAGES, blank, catch_up, entry_of, give_left, is_at, make_empty,
+    run_of, same_run,
+};
+use free_blocks::{FreeBlocks, Marks};
+use mdb_bytes::ConverterEntry;
+use mdb_model::fault::Memory;
+use std::alloc::Global;
+use std::marker::Model;
+use std::mem;
+
+/// The map from pages to blocks, as it is now, as it was at the last savepoint, and as it was frozen
+/// for one that is being made. It is seen as three lists of entries of one length: the root, then the
+/// leaves, then the logical pages. It keeps 52 bytes for each block of the area.
+#[derive(Drop)]
+pub struct Converter {
+    conv: usize,
+    present: Vec<ConverterEntry>,
+    saved: KeptMap,
+    // the frozen map, or room for the next one
+    frozen: KeptMap,
+    // the place that a block has in any of the maps
+    owner: Vec<u32>,
+    frozen_at: Option<u64>,
+}
+
+impl Model for Converter {
+    ghost use Rattle.converter.specs.Maps.{Maps, IsFollowed, shown};
+
+    ghost Value = { Maps };
+
+    ghost view = { λ s. record {
+      conv = s.conv;
+      present = s.present.items;
+      saved = s.saved.entries.items;
+      frozen = shown s.frozen_at s.frozen.entries.items;
+      owner = s.owner.items;
+      frozen_at = s.frozen_at;
+    } };
+
+    ghost invariant = { λ s. IsFollowed
+        record {
+          conv = s.conv;
+          present = s.present.items;
+          saved = s.saved.entries.items;
+          frozen = shown s.frozen_at s.frozen.entries.items;
+          owner = s.owner.items;
+          frozen_at = s.frozen_at;
+        }
+        s.frozen.entries.items
+        s.saved.behind
+        s.frozen.behind };
+}
+
+/// Stands for the map that was frozen with this savepoint number.
+#[derive(Debug, Drop)]
+pub struct FrozenMap {
+    savepoint: u64,
+    pub ghost small: { savepoint < 2 ^ 62 },
+}
+
+// A list with no page.
+fn empty_list(alloc: Global, long: usize) -> Result<Vec<ConverterEntry>, Memory>
+    ensures { IfOk result (λ l. l.items ≡ replicate long no_entry) }
+{
+    let Ok(entries) = vec![in alloc; NO_ENTRY; long] else {
+        return Err(Memory);
+    };
+    Ok(entries)
+}
+
+// A map with no page.
+fn empty_map(alloc: Global, long: usize) -> Result<KeptMap, Memory>
+    ensures entries { IfOk result (λ m. m.entries.items ≡ replicate long no_entry) }
+    ensures behind { IfOk result (λ m. m.behind ≡ replicate 110 false) }
+{
+    let entries = empty_list(alloc, long)?;
+    Ok(KeptMap {
+        entries,
+        behind: [false; LEAVES],
+    })
+}
+
+impl FrozenMap {
+    // Its savepoint number.
+    pub(crate) fn savepoint(&self) -> u64
+        ensures number { result ≡ self.now.savepoint }
+        ensures small { result < 2 ^ 62 }
+    {
+        self.savepoint
+    }
+}
+
+impl Converter {
+    /// All maps are empty. Nothing is kept where memory is wanting.
+    pub fn new(alloc: Global, blocks: u32) -> Result<Converter, Memory>
+        requires some { 0 < blocks }
+        requires bound { blocks ≤ 65536 }
+        ensures { IfOk result (λ m. m ≡ empty_maps blocks (replicate blocks 0)) }
+    {
+        let conv = 1 + (blocks as usize + 599) / 600;
+        let long = conv + blocks as usize;
+        let present = empty_list(alloc, long)?;
+        let saved = empty_map(alloc, long)?;
+        let frozen = empty_map(alloc, long)?;
+        let Ok(owner) = vec![in alloc; 0u32; blocks as usize] else {
+            return Err(Memory);
+        };
+        Ok(Converter {
+            conv,
+            present,
+            saved,
+            frozen,
+            owner,
+            frozen_at: None,
+        })
+    }
+
+    /// The block of a page in the present map, and the savepoint that last wrote it.
+    pub fn map(&self, page: u32) -> Option<ConverterEntry>
+        requires { page < length self.now.owner }
+        ensures { MatchOption
+            result
+            (block_of self.now.present (self.now.conv + page) ≡ 0)
+            (λ e. (e ≡ entry_at self.now.present (self.now.conv + page)) × (0 < e.block)) }
+    {
+        let e = self.present[self.conv + page as usize];
+        if e.block == 0 { None } else { Some(e) }
+    }
+
+    /// Gives a page of the present map this block. The block that it had is not given free.
+    pub fn set(&mut self, page: u32, entry: ConverterEntry)
+        requires below { page < length self.old.owner }
+        requires block { (2 ≤ entry.block) × (entry.block < length self.old.owner) }
+        requires stamp { (0 < entry.stamp) × (entry.stamp < 2 ^ 62) }
+        requires alone { IsOpenTo self.old entry.block (self.old.conv + page) }
+        ensures { self.new ≡ record self.old {
+          present = slice_set self.old.present (self.old.conv + page) entry;
+          owner = slice_set self.old.owner entry.block (self.old.conv + page);
+        } }
+    {
+        let q = self.conv + page as usize;
+        self.present[q] = entry;
+        self.owner[entry.block as usize] = q as u32;
+        self.saved.behind[page as usize / PAGES] = true;
+        self.frozen.behind[page as usize / PAGES] = true;
+    }
+
+    /// Takes its block from a page of the present map. The block is not given free.
+    pub fn clear(&mut self, page: u32)
+        requires { page < length self.old.owner }
+        ensures { self.new ≡ record self.old { present = slice_set self.old.present (self.old.conv + page) no_entry } }
+    {
+        let q = self.conv + page as usize;
+        self.present[q] = NO_ENTRY;
+        self.saved.behind[page as usize / PAGES] = true;
+        self.frozen.behind[page as usize / PAGES] = true;
+    }
+
+    // The frozen map, which has no page where none is frozen.
+    fn frozen_entries(&self) -> &[ConverterEntry]
+        ensures { (q : ℕ) → entry_at result.now q ≡ entry_at self.now.frozen q }
+    {
+        match self.frozen_at {
+            Some(_) => &self.frozen.entries,
+            None => &[],
+        }
+    }
+
+    /// Whether the last savepoint's or the frozen map has the block, for a page or for a page of the
+    /// converter.
+    pub fn kept(&self, b: u32) -> bool
+        requires some { 0 < b }
+        requires below { b < length self.now.owner }
+        ensures { IsTrue result ↔ IsKept self.now b }
+    {
+        let q = self.owner[b as usize] as usize;
+        let saved = is_at(&self.saved.entries, q, b);
+        let frozen = is_at(self.frozen_entries(), q, b);
+        saved | frozen
+    }
+
+    /// Whether one of these two or the present map has it.
+    pub fn uses(&self, b: u32) -> bool
+        requires some { 0 < b }
+        requires below { b < length self.now.owner }
+        ensures { IsTrue result ↔ IsUsed self.now b }
+    {
+        let q = self.owner[b as usize] as usize;
+        let present = is_at(&self.present, q, b);
+        let kept = self.kept(b);
+        present | kept
+    }
+
+    /// Makes the present map the frozen one. It copies the entries of the leaves in which a page
+    /// changed since the savepoint before the last one, and those of the converter's own pages.
+    pub fn freeze(&mut self, savepoint: u64) -> FrozenMap
+        requires none { self.old.frozen_at ≡ None }
+        requires number { savepoint < 2 ^ 62 }
+        ensures maps { self.new ≡ record self.old {
+          frozen = self.old.present;
+          frozen_at = Some savepoint;
+        } }
+        ensures stands { result.savepoint ≡ savepoint }
+    {
+        catch_up(&mut self.frozen, &self.present, self.conv);
+        self.frozen_at = Some(savepoint);
+        FrozenMap { savepoint }
+    }
+
+    /// Makes the frozen map that of the last savepoint. It gives free what the former one alone had,
+    /// but for blocks with a mark.
+    pub fn settle(&mut self, free: &mut FreeBlocks, marks: &Marks, map: FrozenMap)
+        requires frozen { self.old.frozen_at ≡ Some map.savepoint }
+        requires area { (length free.old ≡ length self.old.owner) × (length marks.now ≡ length self.old.owner) }
+        requires unused { AreUnused self.old free.old }
+        ensures maps { self.new ≡ settled self.old }
+        ensures given { Given (Leaves self.old marks.now) 0 (length self.old.saved) free.old free.new }
+    {
+        let FrozenMap { savepoint: _ } = map;
+        give_left(
+            free,
+            marks,
+            &self.present,
+            &self.saved,
+            &self.frozen.entries,
+            self.conv,
+        );
+        mem::swap(&mut self.saved, &mut self.frozen);
+        self.frozen_at = None;
+    }
+
+    // Gives one of the converter's own pages a block that no map has.
+    pub(crate) fn set_own(&mut self, q: usize, entry: ConverterEntry, savepoint: u64)
+        requires place { q < self.old.conv }
+        requires frozen { self.old.frozen_at ≡ Some savepoint }
+        requires block { (2 ≤ entry.block) × (entry.block < length self.old.owner) }
+        requires stamp { entry.stamp < 2 ^ 62 }
+        requires unused { IsUsed self.old entry.block → ⊥ }
+        ensures { self.new ≡ with_own self.old q entry }
+    {
+        let _savepoint = savepoint;
+        self.present[q] = entry;
+        self.frozen.entries[q] = entry;
+        self.owner[entry.block as usize] = q as u32;
+    }
+
+    // Gives a place of the present and the last savepoint's map a block that no map has.
+    pub(crate) fn place(&mut self, q: usize, entry: ConverterEntry)
+        requires place { q < self.old.conv + length self.old.owner }
+        requires thawed { self.old.frozen_at ≡ None }
+        requires block { (2 ≤ entry.block) × (entry.block < length self.old.owner) }
+        requires stamp { entry.stamp < 2 ^ 62 }
+        requires fits { self.old.conv ≤ q → IsTrue (converter_entry_fits entry) }
+        requires unused { IsUsed self.old entry.block → ⊥ }
+        ensures { self.new ≡ with_loaded self.old q entry }
+    {
+        self.present[q] = entry;
+        self.saved.entries[q] = entry;
+        self.owner[entry.block as usize] = q as u32;
+        if q >= self.conv {
+            self.frozen.behind[(q - self.conv) / PAGES] = true;
+        }
+    }
+
+    // Makes all maps empty.
+    pub(crate) fn empty(&mut self)
+        ensures { self.new ≡ empty_maps (length self.old.owner) self.old.owner }
+    {
+        blank(&mut self.present);
+        make_empty(&mut self.saved);
+        make_empty(&mut self.frozen);
+        self.frozen_at = None;
+    }
+
+    /// The block that a page has in the frozen map, or 0.
+    pub fn frozen_block(&self, page: u32) -> u32
+        requires { page < length self.now.owner }
+        ensures block { result ≡ block_of self.now.frozen (self.now.conv + page) }
+        ensures below { result < length self.now.owner }
+        ensures sound { IsSound self.now }
+    {
+        let _owner = self.owner.len();
+        entry_of(self.frozen_entries(), self.conv + page as usize).block
+    }
+
+    /// How many blocks the area has.
+    pub(crate) fn blocks(&self) -> u32
+        ensures count { result ≡ length self.now.owner }
+        ensures sound { IsSound self.now }
+    {
+        self.owner.len() as u32
+    }
+
+    /// How many leaves a map has.
+    pub fn leaves(&self) -> u32
+        ensures count { result + 1 ≡ self.now.conv }
+        ensures sound { IsSound self.now }
+    {
+        (self.conv - 1) as u32
+    }
+
+    /// Whether a leaf of the frozen map has to be written: it is not that of the last savepoint.
+    pub fn leaf_changed(&self, map: &FrozenMap, leaf: u32) -> bool
+        requires frozen { self.now.frozen_at ≡ Some map.now.savepoint }
+        requires leaf { leaf + 1 < self.now.conv }
+        ensures same { (IsTrue result → ⊥) ↔ IsSameLeaf self.now leaf }
+        ensures sound { IsSound self.now }
+    {
+        let _savepoint = map.savepoint;
+        let i = leaf as usize;
+        if entry_of(&self.saved.entries, i + 1).block == 0 {
+            return true;
+        }
+        (self.saved.behind[i] || self.frozen.behind[i])
+            && !same_run(
+                &self.frozen.entries,
+                &self.saved.entries,
+                self.conv + PAGES * i,
+            )
+    }
+
+    // The entries of a leaf of the frozen map.
+    pub(crate) fn frozen_run(&self, leaf: u32) -> [ConverterEntry; 600]
+        requires { leaf + 1 < self.now.conv }
+        ensures entries { (k : ℕ) → k < 600 → entry_at result k ≡ entry_at self.now.frozen (self.now.conv + 600 * leaf + k) }
+        ensures long { length result ≡ 600 }
+        ensures sound { IsSound self.now }
+    {
+        let at = self.conv + PAGES * leaf as usize;
+        run_of(self.frozen_entries(), at)
+    }
+
+    // The block that one of the converter's own pages has in the frozen map.
+    pub(crate) fn frozen_own(&self, q: u32) -> u32
+        requires { q < self.now.conv }
+        ensures { result ≡ block_of self.now.frozen q }
+    {
+        entry_of(self.frozen_entries(), q as usize).block
+    }
+
+    // The block of one of the converter's own pages, in the frozen map or in that of the last savepoint.
+    pub(crate) fn own_block(&self, q: u32) -> u32
+        requires { q < self.now.conv }
+        ensures block { result ≡ block_of self.now.present q }
+        ensures own { entry_at self.now.present q ≡ entry_at (own_of self.now.frozen_at self.now.saved self.now.frozen) q }
+        ensures below { result < length self.now.owner }
+        ensures sound { IsSound self.now }
+    {
+        let _owner = self.owner.len();
+        entry_of(&self.present, q as usize).block
+    }
+}

@@ -1,0 +1,12 @@
+pub mod Absent
+pub mod Syncing
+pub mod Sums
+pub mod RecordLaws
+pub mod Fresh
+pub mod Ranges
+pub mod FirstBlocks
+pub mod Writing
+pub mod Zeros
+pub mod Opening
+pub mod FirstRecords
+pub mod Stages

@@ -1,0 +1,4 @@
+pub mod Standing
+pub mod Devices
+pub mod Quiet
+pub mod Making

@@ -1,0 +1,32 @@
+use Rattle.std.proofs.Common.{◌∙◌, sym, subst}
+use Rattle.std.specs.Prelude.{IfErr}
+use Rattle.mdb_model.specs.Images.{Image}
+use Rattle.mdb_host.proofs.Moments.{same_image}
+use Rattle.redo_ring.proofs.Places.{agree_on}
+use Rattle.db_kernel.specs.Damages.{RefusesInFront}
+use Rattle.creation.specs.Devices.{device_count, SyncedUpTo}
+use Rattle.db_kernel.specs.declared.opening.Found.{Found}
+use Rattle.db_kernel.specs.Reading.{IsFound}
+use Rattle.creation.proofs.Syncing.{all_stay}
+use Rattle.db_kernel.proofs.Results.{ok_map, ok_all}
+use Rattle.db_kernel.proofs.opening.find_records.Goals as goal
+
+pub returns-clause-found : goal.returns-clause-found
+returns-clause-found g c =
+    ok_map c.read_records.result (λ (found : Found). g.H.Host.tells → IsFound found (g.H.Host.disk c.sync_devices.new.host).seen) (λ (found : Found). g.H.Host.tells → IsFound found (g.H.Host.disk c.args.host.now).seen)
+    (λ found is told. subst (λ (i : Image). IsFound found i) (sym (same_image (g.H.Host.disk c.args.host.now).seen (g.H.Host.disk c.sync_devices.new.host).seen (c.sync_devices.ensures.seen told))) (is told))
+    c.read_records.ensures.found
+
+pub returns-clause-synced : goal.returns-clause-synced
+returns-clause-synced g c =
+    ok_all c.read_records.result (λ (found : Found). g.H.Host.tells → SyncedUpTo device_count (g.H.Host.disk c.read_records.new.host))
+    (λ found told. all_stay (g.H.Host.disk c.sync_devices.new.host) (g.H.Host.disk c.read_records.new.host) device_count (c.read_records.ensures.calm told) (c.read_records.ensures.seen told) (c.in-Ok.ensures.synced told))
+
+pub returns-clause-refuses : goal.returns-clause-refuses
+returns-clause-refuses g c told =
+    let same = same_image (g.H.Host.disk c.args.host.now).seen (g.H.Host.disk c.sync_devices.new.host).seen (c.sync_devices.ensures.seen told) in
+    subst (λ (i : Image). IfErr c.read_records.result (RefusesInFront i)) (sym same) (c.read_records.ensures.refuses told)
+
+pub returns-clause-calm : goal.returns-clause-calm
+returns-clause-calm g c told =
+    agree_on (g.H.Host.disk c.args.host.now) (g.H.Host.disk c.sync_devices.new.host) (g.H.Host.disk c.read_records.new.host) (c.sync_devices.ensures.calm told) (c.read_records.ensures.calm told)

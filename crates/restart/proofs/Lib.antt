@@ -1,0 +1,4 @@
+pub mod Again
+pub mod Making
+pub mod Steps
+pub mod LeftToRedo

@@ -1,0 +1,141 @@
+//! Redoing the log: the changes of its groups make the rows.
+ghost use Rattle.std.specs.Prelude.{◌≡◌, ℕ, ◌<◌, ◌≤◌, IfOk, IfSome, IsSomeAnd, OnOk, unwrap_or};
+ghost use Rattle.std.specs.Bool.{OnTrue, OnFalse};
+ghost use Rattle.mdb_model.specs.Tables.{with_change, with_commits};
+ghost use Rattle.mdb_bytes.specs.LoggedChanges.{change_of, IsWithinLimits};
+ghost use Rattle.restart.specs.Redone.{
+  IsResumable,
+  IsGroupDue,
+  IsMade,
+  IsUnder,
+  IsNextRedone,
+  HasRedoCause,
+  commits_upto,
+  last_number,
+  Allows,
+};
+
+use crate::ground::Ground;
+use mdb_bytes::{GroupBuf, LoggedChange, changes_of, group_head};
+use mdb_model::fault::PageFault;
+
+// Makes one change in the rows.
+fn redo_change<G: Ground>(ground: &mut G, change: LoggedChange<'_>) -> Result<(), PageFault>
+    requires limits { IsWithinLimits change }
+    requires due { G.began_is_known ground.old → IsResumable (G.began ground.old) (G.last_done ground.old) (G.held ground.old).rows }
+    ensures made { G.is_known ground.old → OnOk result (G.is_known ground.new
+        × (G.held ground.new ≡ record (G.held ground.old) { rows = with_change (change_of change.entry) (G.held ground.old).rows })) }
+    ensures cause { HasRedoCause (G.is_known ground.old) (G.spare_after_savepoint ground.old < 64) (G.faults ground.old) (G.faults ground.new) result }
+    ensures follows { G.follows ground.old ground.new }
+{
+    ground.room()?;
+    match change {
+        LoggedChange::Put(table, key, value) => ground.put(table, key, value),
+        LoggedChange::Del(table, key) => match ground.del(table, key) {
+            Ok(_) => Ok(()),
+            Err(fault) => Err(fault),
+        },
+    }
+}
+
+// Makes the changes of a group in the rows.
+fn redo_group<G: Ground>(ground: &mut G, group: &GroupBuf) -> Result<(), PageFault>
+    requires due { G.began_is_known ground.old → G.is_known ground.old × IsGroupDue (G.began ground.old) (G.last_done ground.old) (G.held ground.old).rows group.now }
+    ensures made { G.is_known ground.old → OnOk result (G.is_known ground.new × IsMade (G.held ground.old) (G.held ground.new) group.now) }
+    ensures cause { HasRedoCause (G.is_known ground.old) ((at : G) × G.follows ground.old at × (G.spare_after_savepoint at < 64)) (G.faults ground.old) (G.faults ground.new) result }
+    ensures follows { G.follows ground.old ground.new }
+{
+    let mut changes = changes_of(group.bytes());
+    while let Some(change) = changes.next() {
+        redo_change(ground, change)?;
+    }
+    Ok(())
+}
+
+// Whether a commit of this number is behind those that are asked for.
+fn is_behind(number: u64, until: Option<u64>) -> bool
+    ensures allowed { OnFalse result (Allows until number) }
+    ensures behind { OnTrue result (IsSomeAnd until (λ until. until < number)) }
+{
+    match until {
+        Some(until) => until < number,
+        None => false,
+    }
+}
+
+// Sets the first commit that is left, and answers its number; none where no commit is left that is
+// asked for.
+fn redo_next<G: Ground>(
+    ground: &mut G,
+    group: &mut GroupBuf,
+    until: Option<u64>,
+) -> Result<Option<u64>, PageFault>
+    requires under { G.began_is_known ground.old → G.is_known ground.old × IsUnder (G.began ground.old) (G.held ground.old) (G.last_done ground.old) }
+    ensures next { G.is_known ground.old → IfOk result (λ number. G.is_known ground.new × IsNextRedone number until (G.held ground.old) (G.held ground.new)) }
+    ensures under { IfOk result (λ number. IfSome number (λ _. G.began_is_known ground.new → G.is_known ground.new × IsUnder (G.began ground.new) (G.held ground.new) (G.last_done ground.new))) }
+    ensures told { IfOk result (λ number. G.last_done ground.new ≡ unwrap_or number (G.last_done ground.old)) }
+    ensures cause { HasRedoCause (G.is_known ground.old) ((at : G) × G.comes_after ground.old at × (G.spare_after_savepoint at < 64)) (G.faults ground.old) (G.faults ground.new) result }
+    ensures comes { G.comes_after ground.old ground.new }
+{
+    if !ground.next(group)? {
+        return Ok(None);
+    }
+    let Some(head) = group_head(group.bytes()) else {
+        return Ok(None);
+    };
+    if is_behind(head.number, until) {
+        return Ok(None);
+    }
+    match redo_group(ground, group) {
+        Ok(()) => {
+            ground.done(head.number);
+            Ok(Some(head.number))
+        }
+        Err(fault) => Err(fault),
+    }
+}
+
+// Whether the last commit that is asked for is set.
+fn is_reached(last: Option<u64>, until: Option<u64>) -> bool
+    ensures { OnTrue result (IsSomeAnd last (λ last. IsSomeAnd until (λ until. until ≤ last))) }
+{
+    match (last, until) {
+        (Some(last), Some(until)) => until <= last,
+        _ => false,
+    }
+}
+
+/// Sets the commits of the log in order up to the number `until`, or all of them, and answers the
+/// number of the last one, none where it set none. `group` is the room for one group. Before each
+/// change it asks for room, and after each commit it says that it is done: so at each moment the
+/// rows with the commits behind the last one that is done are those with all of the log. What is
+/// left of the log is not said; where the call fails, some of the commits are set, and of one more
+/// perhaps a part.
+pub fn redo<G: Ground>(
+    ground: &mut G,
+    group: &mut GroupBuf,
+    until: Option<u64>,
+) -> Result<Option<u64>, PageFault>
+    requires began { G.began_is_known ground.old → G.is_known ground.old × (G.began ground.old ≡ G.held ground.old) }
+    requires last { G.began_is_known ground.old → G.last_done ground.old ≡ (G.held ground.old).log.after }
+    ensures rows { G.is_known ground.old → OnOk result (G.is_known ground.new
+        × ((G.held ground.new).rows ≡ with_commits (commits_upto until (G.held ground.old).log) (G.held ground.old).rows)
+        × ((G.held ground.new).undo ≡ (G.held ground.old).undo)) }
+    ensures last { G.is_known ground.old → IfOk result (λ last. last ≡ last_number (G.held ground.old).log.after (commits_upto until (G.held ground.old).log)) }
+    ensures told { IfOk result (λ last. G.last_done ground.new ≡ unwrap_or last (G.last_done ground.old)) }
+    ensures cause { HasRedoCause (G.is_known ground.old) ((at : G) × G.comes_after ground.old at × (G.spare_after_savepoint at < 64)) (G.faults ground.old) (G.faults ground.new) result }
+    ensures comes { G.comes_after ground.old ground.new }
+{
+    let mut last = None;
+    for _count in 0..u64::MAX {
+        if is_reached(last, until) {
+            return Ok(last);
+        }
+        match redo_next(ground, group, until) {
+            Ok(Some(number)) => last = Some(number),
+            Ok(None) => return Ok(last),
+            Err(fault) => return Err(fault),
+        }
+    }
+    Ok(last)
+}

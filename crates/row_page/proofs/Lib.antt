@@ -1,0 +1,10 @@
+pub mod FieldPlaces
+pub mod Cells
+pub mod Bodies
+pub mod Entries
+pub mod Pages
+pub mod Order
+pub mod Edits
+pub mod ReadBack
+pub mod Moves
+pub mod Halves

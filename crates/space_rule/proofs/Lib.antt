@@ -1,0 +1,5 @@
+pub mod Opens
+pub mod Sums
+pub mod Noting
+pub mod Settling
+pub mod Starting

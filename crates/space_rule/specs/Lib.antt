@@ -1,0 +1,4 @@
+pub mod Told
+pub mod Weighing
+pub mod Spaces
+pub mod Settling

@@ -1,0 +1,406 @@
+//! The calls of the space rule.
+ghost use Rattle.std.specs.Prelude.{◌≡◌, ◌+◌, ◌-◌, ◌^◌, ◌<◌, ◌≤◌, ℕ, List, [], true, false, length, replicate, ◌∷◌, ◌++◌, None, Some, IfSome, IfNone, OnOk, OnErr, IsTrue, map, vec_len, vec_capacity, sum_by, slice_index, slice_set, if◌then◌else◌, option_map, Vec};
+ghost use Rattle.std.specs.Bool.{OnTrue, OnFalse};
+ghost use Rattle.std.specs.Option.{ForSome};
+ghost use Rattle.mdb_model.specs.Script.{is_session, is_table};
+ghost use Rattle.mdb_model.specs.Tables.{place_of};
+ghost use Rattle.mdb_bytes.specs.Groups.{change_fits};
+ghost use Rattle.space_rule.specs.declared.open_change.OpenChange.{OpenChange};
+ghost use Rattle.space_rule.specs.Told.{
+  changes_at,
+  ended,
+  growth_of,
+  loaded,
+  need_of,
+  noted,
+  opened,
+  pages_of,
+  prepared_for,
+  session_undo,
+  size_of,
+  undo_cost,
+  undo_of,
+  with_area,
+  with_noted,
+  with_open,
+};
+ghost use Rattle.space_rule.specs.Spaces.{told_of};
+ghost use Rattle.space_rule.specs.Settling.{IsSettled};
+ghost use Rattle.space_rule.specs.Weighing.{lists, HasRoom, IsInOrder};
+
+use crate::costs::{
+    converter_page_count, growth, image_cost, row_cost, table_page_count, undo_page_count,
+};
+use crate::open_change::{OpenChange, Weight, put_open, weight_with};
+use crate::space::Space;
+use mdb_model::bytes::Key;
+use mdb_model::change::Change;
+use mdb_model::fault::Memory;
+use mdb_model::name::{Session, Table};
+use std::alloc::Global;
+use std::array;
+
+// What the sums are with one more change.
+#[derive(Clone, Copy)]
+struct Weighed {
+    weight: Weight,
+    pages: u64,
+    undo: u64,
+}
+
+// What the sums are without the last change of a session.
+#[derive(Clone, Copy)]
+pub(crate) struct Settled {
+    index: usize,
+    committed: u64,
+    weight: Weight,
+    pages: u64,
+    undo: u64,
+}
+
+fn table_of(change: &Change) -> Table
+    ensures table { (before : _) → result ≡ (opened change.now before).table }
+    ensures place { result.0 ≡ (place_of change.now).0 }
+{
+    match change {
+        Change::Put(table, _, _) => *table,
+        Change::Del(table, _) => *table,
+    }
+}
+
+fn key_of(change: &Change) -> &Key
+    ensures key { (before : _) → result.now ≡ (opened change.now before).key }
+    ensures place { result.now ≡ (place_of change.now).1 }
+{
+    match change {
+        Change::Put(_, key, _) => key,
+        Change::Del(_, key) => key,
+    }
+}
+
+// The length of the value that the row has after the change.
+fn len_after(change: &Change) -> Option<u16>
+    requires { IsTrue (change_fits change.now) }
+    ensures { (before : _) → result ≡ (opened change.now before).now }
+{
+    match change {
+        Change::Put(_, _, value) => Some(value.bytes().len() as u16),
+        Change::Del(_, _) => None,
+    }
+}
+
+// A length as a change keeps it.
+fn short_len(len: Option<usize>) -> Option<u16>
+    requires { ForSome len (λ n. n ≤ 1500) }
+    ensures { result ≡ len }
+{
+    match len {
+        Some(len) => Some(len as u16),
+        None => None,
+    }
+}
+
+// The committed cost of a table once a change of a row ended.
+fn settled_cost(committed: u64, before: u64, now: u64, is_commit: bool) -> u64
+    requires { (committed < 2 ^ 62) × (now < 2 ^ 63) }
+    ensures { result ≡ (if is_commit then (committed + now) - before else committed) }
+{
+    if is_commit {
+        (committed + now).saturating_sub(before)
+    } else {
+        committed
+    }
+}
+
+// Takes the last change away.
+fn drop_last(changes: &mut Vec<OpenChange>)
+    ensures { (xs : List OpenChange) (x : OpenChange) → changes.old.items ≡ xs ++ x ∷ [] → changes.new.items ≡ xs }
+{
+    changes.pop();
+}
+
+// Adds a change of the key for which memory was taken.
+fn place_open(
+    changes: &mut Vec<OpenChange>,
+    taken: Option<(Table, Key)>,
+    before: Option<u16>,
+    now: Option<u16>,
+)
+    requires order { IsInOrder changes.old.items }
+    requires table { ForSome taken (λ place. IsTrue (is_table place.0.0)) }
+    requires room { ForSome taken (λ _. vec_len changes.old < vec_capacity changes.old) }
+    ensures one { (x : OpenChange) → taken ≡ Some (x.table, x.key) → x.before ≡ before → x.now ≡ now
+        → changes.new.items ≡ with_open x changes.old.items }
+    ensures order { IsInOrder changes.new.items }
+{
+    if let Some((table, key)) = taken {
+        let open = OpenChange {
+            table,
+            key,
+            before,
+            now,
+        };
+        put_open(changes, open);
+    }
+}
+
+fn no_costs() -> [u64; 501]
+    ensures { result ≡ replicate 501 0 }
+{
+    [0; 501]
+}
+
+fn no_bytes() -> [u64; 65]
+    ensures { result ≡ replicate 65 0 }
+{
+    [0; 65]
+}
+
+fn no_changes(alloc: Global) -> [Vec<OpenChange>; 65]
+    ensures { lists result ≡ replicate 65 [] }
+{
+    array::from_fn(|_| Vec::new(alloc))
+}
+
+// Takes the memory for one more change.
+fn reserve_one(changes: &mut Vec<OpenChange>) -> Result<(), Memory>
+    ensures same { changes.new.items ≡ changes.old.items }
+    ensures room { OnOk result (vec_len changes.new < vec_capacity changes.new) }
+{
+    match changes.reserve(1) {
+        Ok(()) => Ok(()),
+        Err(_) => Err(Memory),
+    }
+}
+
+// Takes the memory for one more change of each session.
+fn reserve_each(sessions: &mut [Vec<OpenChange>; 65]) -> Result<(), Memory>
+    ensures same { lists sessions.new ≡ lists sessions.old }
+    ensures room { OnOk result (HasRoom sessions.new) }
+{
+    for session in 0..65 {
+        reserve_one(&mut sessions[session])?;
+    }
+    Ok(())
+}
+
+impl Space {
+    /// An area of so many blocks, with no rows, no open changes and nothing kept. It takes no
+    /// memory.
+    pub fn new(alloc: Global, blocks: u32) -> Space
+        ensures { told_of result ≡ record { blocks = blocks; kept = 0; committed = replicate 501 0; sessions = replicate 65 []; prepared = None } }
+    {
+        Space {
+            alloc,
+            blocks,
+            kept: 0,
+            committed: no_costs(),
+            grown: no_costs(),
+            sessions: no_changes(alloc),
+            undo_bytes: no_bytes(),
+            pages: 0,
+            undo: 0,
+            prepared: None,
+        }
+    }
+
+    /// The logical pages that the database may have now.
+    pub fn size(&self) -> u64
+        ensures size { result ≡ size_of (told_of self.now) }
+        ensures small { result ≤ 2 ^ 62 }
+    {
+        self.pages + self.undo + 2
+    }
+
+    /// The blocks that the database needs.
+    pub fn need(&self) -> u64
+        ensures { result ≡ need_of (told_of self.now) }
+    {
+        2 + self.size() + 2 * converter_page_count(self.blocks) + self.kept
+    }
+
+    // The sums with one more change of a session.
+    fn weighed(&self, s: Session, change: &Change, before: Option<usize>) -> Weighed
+        requires session { IsTrue (is_session s.0) }
+        requires limits { IsTrue (change_fits change.now) }
+        requires before { ForSome before (λ n. n ≤ 1500) }
+        ensures grown { result.weight.grown ≡ growth_of (place_of change.now).0 (with_noted (told_of self.now).sessions s.0 change.now before) }
+        ensures bytes { result.weight.bytes ≡ sum_by undo_cost (with_open (opened change.now before) (changes_at (told_of self.now).sessions s.0)) }
+        ensures pages { result.pages ≡ pages_of self.now.committed (with_noted (told_of self.now).sessions s.0 change.now before) }
+        ensures undo { result.undo ≡ undo_of (with_noted (told_of self.now).sessions s.0 change.now before) }
+        ensures small { (result.pages ≤ 2 ^ 62) × (result.undo ≤ 2 ^ 61) }
+    {
+        let table = table_of(change);
+        let index = table.0 as usize;
+        let session = s.0 as usize;
+        let old = Weight {
+            grown: self.grown[index],
+            bytes: self.undo_bytes[session],
+        };
+        let key = key_of(change).bytes();
+        let weight = weight_with(
+            &self.sessions[session],
+            old,
+            table,
+            key,
+            short_len(before),
+            len_after(change),
+        );
+        let committed = self.committed[index];
+        Weighed {
+            weight,
+            pages: self.pages - table_page_count(committed + old.grown)
+                + table_page_count(committed + weight.grown),
+            undo: self.undo - undo_page_count(old.bytes) + undo_page_count(weight.bytes),
+        }
+    }
+
+    /// The blocks that the database would need with one more change of a session. `before` is the
+    /// length in bytes of the value that the session sees at the key, none where it sees no row.
+    /// Only the length at a session's first change of a key counts.
+    pub fn would_need(&self, s: Session, change: &Change, before: Option<usize>) -> u64
+        requires session { IsTrue (is_session s.0) }
+        requires limits { IsTrue (change_fits change.now) }
+        requires before { ForSome before (λ n. n ≤ 1500) }
+        ensures { result ≡ need_of (noted (told_of self.now) s.0 change.now before) }
+    {
+        let weighed = self.weighed(s, change, before);
+        let size = weighed.pages + weighed.undo + 2;
+        2 + size + 2 * converter_page_count(self.blocks) + self.kept
+    }
+
+    /// Takes the memory for one `note` of this change, whatever the session. Where memory is
+    /// wanting nothing is prepared; else all is as it was.
+    pub fn prepare(&mut self, change: &Change) -> Result<(), Memory>
+        ensures ok { OnOk result (told_of self.new ≡ prepared_for (told_of self.old) (Some (place_of change.now))) }
+        ensures err { OnErr result (told_of self.new ≡ prepared_for (told_of self.old) None) }
+    {
+        self.prepared = None;
+        let key = key_of(change).copy(self.alloc)?;
+        reserve_each(&mut self.sessions)?;
+        self.prepared = Some((table_of(change), key));
+        Ok(())
+    }
+
+    /// Counts one more change of a session, as `would_need` weighs it. It takes no memory.
+    pub fn note(&mut self, s: Session, change: &Change, before: Option<usize>)
+        requires session { IsTrue (is_session s.0) }
+        requires limits { IsTrue (change_fits change.now) }
+        requires before { ForSome before (λ n. n ≤ 1500) }
+        requires prepared { (told_of self.old).prepared ≡ Some (place_of change.now) }
+        requires small { need_of (noted (told_of self.old) s.0 change.now before) ≤ 2 ^ 32 }
+        ensures { told_of self.new ≡ noted (told_of self.old) s.0 change.now before }
+    {
+        let weighed = self.weighed(s, change, before);
+        let index = table_of(change).0 as usize;
+        let session = s.0 as usize;
+        let taken = self.prepared.take();
+        place_open(
+            &mut self.sessions[session],
+            taken,
+            short_len(before),
+            len_after(change),
+        );
+        self.grown[index] = weighed.weight.grown;
+        self.undo_bytes[session] = weighed.weight.bytes;
+        self.pages = weighed.pages;
+        self.undo = weighed.undo;
+    }
+
+    /// Sets the blocks of the area, and what is kept for snapshots and a backup under way.
+    pub fn set_area(&mut self, blocks: u32, kept: u64)
+        requires { kept < 2 ^ 62 }
+        ensures { told_of self.new ≡ with_area (told_of self.old) blocks kept }
+    {
+        self.blocks = blocks;
+        self.kept = kept;
+    }
+
+    /// Sets what the committed rows of a table cost in bytes. No change may be open.
+    pub fn load(&mut self, t: Table, bytes: u64)
+        requires table { IsTrue (is_table t.0) }
+        requires small { bytes < 2 ^ 62 }
+        requires none { (i : ℕ) → changes_at (told_of self.old).sessions i ≡ [] }
+        ensures { told_of self.new ≡ loaded (told_of self.old) t.0 bytes }
+    {
+        let index = t.0 as usize;
+        let old = table_page_count(self.committed[index] + self.grown[index]);
+        self.pages = self.pages - old + table_page_count(bytes);
+        self.committed[index] = bytes;
+    }
+
+    // What the sums are without the last change of a session, once it ended; none where the session
+    // has no change.
+    fn without_last(&self, session: usize, is_commit: bool) -> Option<Settled>
+        requires { session < 65 }
+        ensures some { IfSome result (λ settled. (xs : List OpenChange) (x : OpenChange) → changes_at (told_of self.now).sessions session ≡ xs ++ x ∷ []
+            → IsSettled self.now.committed self.now.grown (told_of self.now).sessions self.now.undo_bytes session is_commit xs x settled) }
+        ensures one { IfSome result (λ settled. 0 < length (changes_at (told_of self.now).sessions session)) }
+        ensures inside { IfSome result (λ settled. settled.index < 501) }
+        ensures none { IfNone result (changes_at (told_of self.now).sessions session ≡ []) }
+    {
+        let changes = self.sessions[session].as_slice();
+        if changes.is_empty() {
+            return None;
+        }
+        let change = &changes[changes.len() - 1];
+        Some(self.settled(session, change, is_commit))
+    }
+
+    // The same of a change that is the last one of the session.
+    fn settled(&self, session: usize, change: &OpenChange, is_commit: bool) -> Settled
+        requires session { session < 65 }
+        requires last { (xs : List OpenChange) × (changes_at (told_of self.now).sessions session ≡ xs ++ change.now ∷ []) }
+        ensures inside { result.index < 501 }
+        ensures sums { (xs : List OpenChange) → changes_at (told_of self.now).sessions session ≡ xs ++ change.entry.now ∷ []
+            → IsSettled self.now.committed self.now.grown (told_of self.now).sessions self.now.undo_bytes session is_commit xs change.entry.now result }
+    {
+        let index = change.table.0 as usize;
+        let key = change.key.bytes();
+        let before = row_cost(key, change.before);
+        let now = row_cost(key, change.now);
+        let old_cost = self.committed[index] + self.grown[index];
+        let committed = settled_cost(self.committed[index], before, now, is_commit);
+        let grown = self.grown[index] - growth(key, change.before, change.now);
+        let old_bytes = self.undo_bytes[session];
+        let bytes = old_bytes - image_cost(key, change.before);
+        Settled {
+            index,
+            committed,
+            weight: Weight { grown, bytes },
+            pages: self.pages - table_page_count(old_cost) + table_page_count(committed + grown),
+            undo: self.undo - undo_page_count(old_bytes) + undo_page_count(bytes),
+        }
+    }
+
+    // Takes the last change of a session, which was committed or rolled back; false where there is
+    // none.
+    fn settle_last(&mut self, session: usize, is_commit: bool) -> bool
+        requires { session < 65 }
+        ensures settled { ended (told_of self.new) session is_commit ≡ ended (told_of self.old) session is_commit }
+        ensures fewer { OnTrue result (length (changes_at (told_of self.new).sessions session) < length (changes_at (told_of self.old).sessions session)) }
+        ensures none { OnFalse result (told_of self.new ≡ ended (told_of self.old) session is_commit) }
+    {
+        self.prepared = None;
+        let Some(settled) = self.without_last(session, is_commit) else {
+            return false;
+        };
+        drop_last(&mut self.sessions[session]);
+        self.committed[settled.index] = settled.committed;
+        self.grown[settled.index] = settled.weight.grown;
+        self.undo_bytes[session] = settled.weight.bytes;
+        self.pages = settled.pages;
+        self.undo = settled.undo;
+        true
+    }
+
+    /// Counts the transaction of a session as ended: its changes are committed rows from now on, or
+    /// they are gone. Nothing stays prepared. It takes time for each change of the session.
+    pub fn ended(&mut self, s: Session, committed: bool)
+        requires { IsTrue (is_session s.0) }
+        ensures { told_of self.new ≡ ended (told_of self.old) s.0 committed }
+    {
+        let session = s.0 as usize;
+        while self.settle_last(session, committed) {}
+    }
+}
