@@ -10,3 +10,7 @@ pub mod Zeros
 pub mod Opening
 pub mod FirstRecords
 pub mod Stages
+pub mod FirstMaps
+pub mod WholeLaw
+pub mod LookLaws
+mod LookRows

@@ -11,3 +11,4 @@ pub mod ReadingLines
 pub mod ReadingSplits
 pub mod ReadingSteps
 pub mod ReadingLaws
+pub mod WordLaws

@@ -2,3 +2,4 @@ pub mod Reading
 pub mod Along
 pub mod Progress
 pub mod Speaking
+pub mod Words

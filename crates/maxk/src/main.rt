@@ -10,7 +10,7 @@ mod words;
 
 use crate::making::create_database;
 use crate::run::run;
-use crate::words::{Asked, Measures, read_words};
+use crate::words::{Asked, Measures, WordsFault, read_words};
 use mdb_host::{FileHost, StdSource};
 use mdb_model::fault::Memory;
 use mdb_model::status::Status;
@@ -21,10 +21,11 @@ fn main(rt: HostRuntime) -> ExitCode {
     let Ok(words) = call_words(&rt) else {
         return ExitCode::from(Status::Memory as u8);
     };
-    let status = match read_words(&words) {
-        Some(Asked::Create { folder, measures }) => make(&rt, folder, &measures),
-        Some(Asked::Run { folder }) => run_script(&rt, folder),
-        None => usage(&rt),
+    let status = match read_words(rt.alloc(), &words) {
+        Ok(Asked::Create { folder, measures }) => make(&rt, folder, &measures),
+        Ok(Asked::Run { folder }) => run_script(&rt, folder),
+        Err(WordsFault::Memory) => Status::Memory,
+        Err(WordsFault::Usage) => usage(&rt),
     };
     ExitCode::from(status as u8)
 }

@@ -38,3 +38,8 @@ pub mod UndoParts
 pub mod PagesBack
 pub mod PageRows
 pub mod PageHeadLaws
+mod TreeRows
+mod UndoRows
+pub mod FirstPages
+pub mod KeptMapLaws
+mod ReadingRows

@@ -21,3 +21,8 @@ pub mod EntryHeads
 pub mod PageEntries
 pub mod Held
 pub mod Paged
+pub mod Stages
+pub mod KeptMaps
+pub mod PageReadings
+pub mod Forms
+pub mod WholeBackups
