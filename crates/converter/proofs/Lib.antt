@@ -5,3 +5,4 @@ pub mod Followed
 pub mod Spelled
 pub mod Loaded
 pub mod OwnSteps
+mod Named

@@ -46,11 +46,11 @@ free_after flags b c lt is = elim (cases_eq c b) [
 
 -- nothing was taken
 pub none_one : (m : Maps) (flags : List Bool) (q : ℕ) → AreUnused m flags → OneOwn m m flags flags q
-none_one m flags q unused = record { own = own_none m; fewer = fewer_none flags 1; unused = unused; others = λ p other. refl }
+none_one m flags q unused = record { own = own_none m; fewer = fewer_none flags 1; unused = unused; others = λ p other. refl; taken = λ b is. inl is }
 
 -- one own page took a block
-pub took_one : (old new : Maps) (flags next : List Bool) (q savepoint b : ℕ) → q < old.conv → AreUnused old flags → Took old new flags next q savepoint b → OneOwn old new flags next q
-took_one old new flags next q savepoint b place unused took = record {
+pub took_one : (old new : Maps) (flags next : List Bool) (q savepoint b : ℕ) → block_of new.frozen q ≡ b → q < old.conv → AreUnused old flags → Took old new flags next q savepoint b → OneOwn old new flags next q
+took_one old new flags next q savepoint b at place unused took = record {
   own = subst (λ (m : Maps). OwnOnly old m) (sym took.maps) record {
     conv = refl;
     saved = refl;
@@ -66,6 +66,10 @@ took_one old new flags next q savepoint b place unused took = record {
   };
   unused = still_unused old new flags next q savepoint b unused took;
   others = λ p other. subst (λ (m : Maps). entry_at m.frozen p ≡ entry_at old.frozen p) (sym took.maps) (get_or-set_other old.frozen q p e no_entry other);
+  taken = λ c is. elim (cases_eq c b) [
+    | inl same ↦ inr (at ∙ sym same)
+    | inr other ↦ inl (subst (λ (l : List Bool). IsFree l c) (sym took.less) (get_or-set_other flags b c false false other ∙ is))
+  ];
 }
   where
     e : ConverterEntry

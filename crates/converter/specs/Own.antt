@@ -1,7 +1,7 @@
 -- What writing the converter's own pages changes.
---     OwnOnly, Fewer, OneOwn      of the maps and of the free blocks
+--     OwnOnly, Fewer, Taken, OneOwn      of the maps and of the free blocks
 --     LeavesHeld, SavedLeaves      the leaves that stand on their blocks
-use Rattle.std.specs.Prelude.{◌≡◌, ◌≢◌, ℕ, ◌+◌, ◌<◌, ◌≤◌, List, Bool, length}
+use Rattle.std.specs.Prelude.{◌≡◌, ◌≢◌, ◌⊎◌, ℕ, ◌+◌, ◌<◌, ◌≤◌, List, Bool, length}
 use Rattle.free_blocks.specs.Free.{IsFree, free_count}
 use Rattle.converter.specs.Maps.{Maps, entry_at, block_of, AreUnused}
 use Rattle.converter.specs.Tree.{LeafHeld}
@@ -21,12 +21,17 @@ pub record Fewer (old new : List Bool) (n : ℕ) : Type 0 where
   pub only : (b : ℕ) → IsFree new b → IsFree old b
   pub count : free_count old ≤ free_count new + n
 
+-- each block that was free is free still, or the frozen map has it at a place from one on
+abbrev pub Taken : (from : ℕ) (old new : List Bool) (m : Maps) → Type 0
+Taken from old new m = (b : ℕ) → IsFree old b → IsFree new b ⊎ ((q : ℕ) × (from ≤ q) × (block_of m.frozen q ≡ b))
+
 -- own page q may have a block that was free, and nothing else changed
 pub record OneOwn (old new : Maps) (flags next : List Bool) (q : ℕ) : Type 0 where
   pub own : OwnOnly old new
   pub fewer : Fewer flags next 1
   pub unused : AreUnused new next
   pub others : (p : ℕ) → p ≢ q → entry_at new.frozen p ≡ entry_at old.frozen p
+  pub taken : (b : ℕ) → IsFree flags b → IsFree next b ⊎ (block_of new.frozen q ≡ b)
 
 -- the first n leaves of the frozen map stand on their blocks
 abbrev pub LeavesHeld : Maps → ℕ → (ℕ → List ℕ) → Type 0

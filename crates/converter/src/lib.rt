@@ -2,9 +2,11 @@
 #![tactic(auto)]
 
 mod kept;
+mod laws;
 mod load;
 mod maps;
 mod pages;
 
+pub use laws::tree_names_its_map;
 pub use maps::{Converter, FrozenMap};
 pub use mdb_bytes::ConverterEntry as Entry;

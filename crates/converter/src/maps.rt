@@ -1,5 +1,5 @@
 //! The maps from pages to blocks.
-ghost use Rattle.std.specs.Prelude.{◌≡◌, ◌≢◌, ◌⊎◌, ◌↔◌, ℕ, ◌+◌, ◌-◌, ◌*◌, ◌/◌, ◌<◌, ◌≤◌, ◌^◌, length, replicate, IfOk, IsTrue, MatchOption, Some, None, slice_set, false};
+ghost use Rattle.std.specs.Prelude.{◌≡◌, ◌≢◌, ◌⊎◌, ◌↔◌, ℕ, ◌+◌, ◌-◌, ◌*◌, ◌/◌, ◌<◌, ◌≤◌, ◌^◌, length, replicate, IfOk, IsSome, IsTrue, MatchOption, Some, None, slice_set, false};
 ghost use Rattle.free_blocks.specs.Free.{IsFree, free_count};
 ghost use Rattle.converter.specs.Maps.{Maps, IsSound, no_entry, entry_at, block_of, IsKept, IsUsed, IsOpenTo, AreUnused, Leaves, Given, empty_maps, with_own, with_loaded, settled, own_of};
 ghost use Rattle.mdb_bytes.specs.ConverterPages.{converter_entry_fits};
@@ -290,6 +290,25 @@ impl Converter {
     {
         let _owner = self.owner.len();
         entry_of(self.frozen_entries(), self.conv + page as usize).block
+    }
+
+    /// Whether a map is frozen.
+    pub fn is_frozen(&self) -> bool
+        ensures { IsTrue result ↔ IsSome self.now.frozen_at }
+    {
+        self.frozen_at.is_some()
+    }
+
+    /// The entry of a place in the map of the last savepoint: the root has place 0, a leaf its number
+    /// and one, and page 0 the place behind the last leaf. It has block 0 where there is no page.
+    pub fn saved_entry(&self, place: u32) -> ConverterEntry
+        requires { place < self.now.conv + length self.now.owner }
+        ensures entry { result ≡ entry_at self.now.saved place }
+        ensures below { result.block < length self.now.owner }
+        ensures sound { IsSound self.now }
+    {
+        let _owner = self.owner.len();
+        entry_of(&self.saved.entries, place as usize)
     }
 
     /// How many blocks the area has.

@@ -7,6 +7,7 @@ ghost use Rattle.creation.specs.Devices.{device_count, device_at};
 ghost use Rattle.creation.specs.Making.{Each, IsEmpty};
 ghost use Rattle.creation.specs.Quiet.{AnyHow};
 ghost use Rattle.creation.specs.Standing.{IsSite, Stands, at_rest, made_at};
+ghost use Rattle.creation.specs.WholeStanding.{StandsWhole};
 
 use crate::area::{any_there, make_devices};
 use crate::pages::write_pages;
@@ -63,8 +64,10 @@ pub fn create<H: Host>(
     requires site { IsSite (record { birth = birth; volumes = volumes.now.items; log_pages = log_pages }) }
     ensures done { OnOk result (H.tells → (image : Image) → (H.disk host.new).may_leave (H.disk host.new).now image
         → Stands image (at_rest (made_at (record { birth = birth; volumes = volumes.now.items; log_pages = log_pages })) [])) }
+    ensures whole { OnOk result (H.tells → (image : Image) → (H.disk host.new).may_leave (H.disk host.new).now image
+        → StandsWhole image (at_rest (made_at (record { birth = birth; volumes = volumes.now.items; log_pages = log_pages })) [])) }
     ensures there { result ≡ Err CreateFault.Exists → H.tells → (number : ℕ) × (number < device_count) × IsThere (H.disk host.old).seen (device_at number) }
-    ensures absent { OnOk result (H.tells → (number : ℕ) → number < device_count → (H.disk host.old).seen (device_at number) ≡ None) }
+    ensures absent { result ≢ Err CreateFault.Exists → H.tells → (number : ℕ) → number < device_count → (H.disk host.old).seen (device_at number) ≡ None }
     ensures untouched { result ≡ Err CreateFault.Exists → host.new ≡ host.old }
     ensures ample { result ≢ Err CreateFault.Memory }
     ensures keeps { H.tells → Keeps (H.disk host.old) (H.disk host.new) }

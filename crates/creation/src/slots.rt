@@ -86,10 +86,8 @@ pub(crate) fn open_log_info<H: Host>(host: &mut H, birth: u64, log_pages: u32) -
     ensures cause { HasCause (H.faults host.old) (H.faults host.new) result }
     ensures say_faults { H.say_faults host.new ≡ H.say_faults host.old }
 {
-    match Slots::first(host, LOG_SLOTS, &SlotBody::Log(log_info(birth, log_pages))) {
-        Ok(_) => Ok(()),
-        Err(failed) => Err(failed),
-    }
+    Slots::first(host, LOG_SLOTS, &SlotBody::Log(log_info(birth, log_pages)))?;
+    Ok(())
 }
 
 /// Puts the restart record in force.
@@ -110,12 +108,7 @@ pub(crate) fn open_restart_record<H: Host>(
     ensures cause { HasCause (H.faults host.old) (H.faults host.new) result }
     ensures say_faults { H.say_faults host.new ≡ H.say_faults host.old }
 {
-    match Slots::first(
-        host,
-        DATA_SLOTS,
-        &SlotBody::Restart(restart(birth, blocks, volumes)),
-    ) {
-        Ok(_) => Ok(()),
-        Err(failed) => Err(failed),
-    }
+    let body = SlotBody::Restart(restart(birth, blocks, volumes));
+    Slots::first(host, DATA_SLOTS, &body)?;
+    Ok(())
 }

@@ -15,3 +15,4 @@ pub mod Opened
 pub mod Kernels
 pub mod Behind
 pub mod Scans
+mod Starts

@@ -9,3 +9,4 @@ pub mod Committing
 pub mod Damages
 pub mod Reading
 pub mod Access
+pub mod Starting

@@ -9,5 +9,7 @@ mod redo;
 mod replies;
 pub mod rows;
 mod scan;
+mod starting;
 
 pub use creation::{CreateFault, create};
+pub use starting::each_image_is_a_start;

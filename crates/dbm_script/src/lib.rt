@@ -14,6 +14,7 @@ mod writing;
 
 pub use fault::LineFault;
 pub use line::parse_line;
+pub use numbers::number;
 pub use printing::{print_end, print_medium, print_reply, print_row};
 pub use replies::{medium_text, reply_text, row_text};
 pub use writing::LineBuf;

@@ -19,8 +19,8 @@ fn with_digit(number: u64, digit: u8) -> Option<u64>
     tens.checked_add(u64::from(digit - b'0'))
 }
 
-// The number that 1 to 20 digits stand for, where it fits.
-fn number(text: &[u8]) -> Option<u64>
+/// The number that 1 to 20 digits stand for, where it fits.
+pub fn number(text: &[u8]) -> Option<u64>
     ensures { MatchOption result ((n : ℕ) → n < 2 ^ 64 → number_of text.now ≢ Some n) (λ n. number_of text.now ≡ Some n) }
 {
     if text.is_empty() || text.len() > 20 {

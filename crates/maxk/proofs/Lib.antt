@@ -12,3 +12,8 @@ pub mod ReadingSplits
 pub mod ReadingSteps
 pub mod ReadingLaws
 pub mod WordLaws
+pub mod WordWalks
+pub mod WordCases
+pub mod Counts
+pub mod MatchReads
+pub mod Calls

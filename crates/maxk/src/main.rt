@@ -1,6 +1,8 @@
 //! The program: makes a database in a folder, or runs a script from the standard input on it.
 #![tactic(auto)]
 
+mod asked;
+mod call;
 mod lines;
 mod making;
 mod run;
@@ -8,9 +10,7 @@ mod saying;
 mod window;
 mod words;
 
-use crate::making::create_database;
-use crate::run::run;
-use crate::words::{Asked, Measures, WordsFault, read_words};
+use crate::call::run;
 use mdb_host::{FileHost, StdSource};
 use mdb_model::fault::Memory;
 use mdb_model::status::Status;
@@ -21,12 +21,13 @@ fn main(rt: HostRuntime) -> ExitCode {
     let Ok(words) = call_words(&rt) else {
         return ExitCode::from(Status::Memory as u8);
     };
-    let status = match read_words(rt.alloc(), &words) {
-        Ok(Asked::Create { folder, measures }) => make(&rt, folder, &measures),
-        Ok(Asked::Run { folder }) => run_script(&rt, folder),
-        Err(WordsFault::Memory) => Status::Memory,
-        Err(WordsFault::Usage) => usage(&rt),
-    };
+    let status = run_over_files(&rt, &words);
+    if status == Status::Usage {
+        // What cannot be said changes nothing.
+        let _ = eprintln!(rt;
+            "usage: maxk create FOLDER BIRTH LOGPAGES DATAPAGES.. | maxk run FOLDER"
+        );
+    }
     ExitCode::from(status as u8)
 }
 
@@ -41,23 +42,19 @@ fn call_words(rt: &HostRuntime) -> Result<Vec<String>, Memory> {
     }
 }
 
-fn make(rt: &HostRuntime, folder: &str, measures: &Measures) -> Status {
-    let Ok(mut host) = FileHost::new(rt, rt.alloc(), folder) else {
+// Does what the words ask for, over the files of the folder and the standard input.
+fn run_over_files(rt: &HostRuntime, words: &[String]) -> Status {
+    let Ok(mut host) = FileHost::new(rt, rt.alloc(), folder_of(words)) else {
         return Status::Memory;
     };
-    create_database(rt.alloc(), &mut host, measures)
+    let mut script = StdSource::new(rt);
+    run(rt.alloc(), words, &mut script, &mut host)
 }
 
-fn run_script(rt: &HostRuntime, folder: &str) -> Status {
-    let Ok(mut host) = FileHost::new(rt, rt.alloc(), folder) else {
-        return Status::Memory;
-    };
-    let mut source = StdSource::new(rt);
-    run(rt.alloc(), &mut host, &mut source)
-}
-
-// Says how the program is called.
-fn usage(rt: &HostRuntime) -> Status {
-    let _ = eprintln!(rt; "usage: maxk create FOLDER BIRTH LOGPAGES DATAPAGES.. | maxk run FOLDER");
-    Status::Usage
+// The word that names a folder. Where there is none, the words ask for nothing, and no file is looked at.
+fn folder_of(words: &[String]) -> &str {
+    match words.get(1) {
+        Some(folder) => folder.as_str(),
+        None => ".",
+    }
 }

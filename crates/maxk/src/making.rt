@@ -1,16 +1,11 @@
 //! Making a database, with the status that the program ends with.
-ghost use Rattle.std.specs.Prelude.{◌≡◌, ℕ, ◌<◌, ◌⊎◌, Bool, None};
+ghost use Rattle.std.specs.Prelude.{◌≡◌, ◌≢◌, ℕ, ◌<◌, ◌⊎◌, None};
 ghost use Rattle.mdb_model.specs.Causes.{Rose};
-ghost use Rattle.mdb_model.specs.declared.script.Command.{Command};
-ghost use Rattle.mdb_model.specs.Headline.{CreatePromise};
-ghost use Rattle.mdb_model.specs.Images.{Image};
-ghost use Rattle.mdb_model.specs.Pages.{PageMap};
 ghost use Rattle.mdb_host.specs.Disk.{Disk, IsThere};
 ghost use Rattle.creation.specs.Devices.{device_count, device_at};
-ghost use Rattle.creation.specs.Standing.{Stands};
-ghost use Rattle.db_kernel.specs.Working.{no_pages};
+ghost use Rattle.maxk.specs.Calls.{NewPromise};
 
-use crate::words::Measures;
+use crate::asked::Measures;
 use db_kernel::{CreateFault, create};
 use mdb_host::Host;
 use mdb_model::status::Status;
@@ -19,11 +14,9 @@ use std::alloc::Global;
 /// Makes a database on the devices of a host. After `DeviceFault` devices may be there, of which
 /// nothing is told.
 pub fn create_database<H: Host>(alloc: Global, host: &mut H, measures: &Measures) -> Status
-    ensures promise { H.tells → (pages_in : Image → PageMap) (savepoint_in commit_in : Image → ℕ) (past_end : Command → Image → Bool)
-        → CreatePromise no_pages (H.disk host.new).said (H.disk host.new).may_leave Stands pages_in savepoint_in commit_in past_end result (H.disk host.old).now (H.disk host.new).now
-        measures.now.birth measures.now.log_pages measures.now.volumes.items }
+    ensures promise { H.tells → NewPromise (H.disk host.old) (H.disk host.new) result measures.now.birth measures.now.log_pages measures.now.volumes.items }
     ensures status { (result ≡ Status.Done) ⊎ ((result ≡ Status.Exists) ⊎ (result ≡ Status.DeviceFault)) }
-    ensures absent { result ≡ Status.Done → H.tells → (number : ℕ) → number < device_count → (H.disk host.old).seen (device_at number) ≡ None }
+    ensures absent { result ≢ Status.Exists → H.tells → (number : ℕ) → number < device_count → (H.disk host.old).seen (device_at number) ≡ None }
     ensures there { result ≡ Status.Exists → H.tells → (number : ℕ) × (number < device_count) × IsThere (H.disk host.old).seen (device_at number) }
     ensures untouched { result ≡ Status.Exists → host.new ≡ host.old }
     ensures cause { result ≡ Status.DeviceFault → Rose (H.faults host.old) (H.faults host.new) }

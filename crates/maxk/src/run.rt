@@ -1,12 +1,8 @@
 //! The run of a script, line by line.
 ghost use Rattle.std.specs.Prelude.{◌≡◌, ℕ, ◌≤◌, ◌<◌, List, Bool, length, IfOk, IsTrue, Some, false};
-ghost use Rattle.mdb_model.specs.Agreement.{Ages};
 ghost use Rattle.mdb_model.specs.Answers.{refused};
 ghost use Rattle.mdb_model.specs.Causes.{Rose, HasCause};
 ghost use Rattle.mdb_model.specs.declared.script.Command.{Command};
-ghost use Rattle.mdb_model.specs.Headline.{CanStart};
-ghost use Rattle.mdb_model.specs.Images.{Image};
-ghost use Rattle.mdb_model.specs.Pages.{PageMap};
 ghost use Rattle.mdb_model.specs.Runs.{Line};
 ghost use Rattle.mdb_model.specs.Script.{is_in_range};
 ghost use Rattle.mdb_model.specs.Worlds.{World};
@@ -15,7 +11,8 @@ ghost use Rattle.creation.specs.Standing.{Stands};
 ghost use Rattle.db_kernel.specs.Kept.{Ready, Meets, Fits};
 ghost use Rattle.db_kernel.specs.Stretch.{Stand, Completes};
 ghost use Rattle.db_kernel.specs.Working.{no_pages};
-ghost use Rattle.maxk.specs.Progress.{DoesLine, Turned, IsLineText, is_end as no_line, weight_in, Promised};
+ghost use Rattle.maxk.specs.Calls.{EndsRun, RunPromise};
+ghost use Rattle.maxk.specs.Progress.{DoesLine, Turned, IsLineText, is_end as no_line, weight_in};
 
 use crate::lines::{LineKind, LineReader};
 use crate::saying::{say_reply, say_scan};
@@ -161,11 +158,10 @@ fn weight(kind: LineKind) -> u64
 
 /// Runs the script of a source on the database of a host, from a kernel that is off. Each reply is
 /// said before the next line is read.
-pub fn run<H: Host, S: Source>(alloc: Global, host: &mut H, source: &mut S) -> Status
-    ensures promise { H.tells → (bytes : List ℕ) → S.left source.old ≡ Some bytes
-        → (pages_in : Image → PageMap) (savepoint_in commit_in : Image → ℕ) (past_end : Command → Image → Bool) (from : List (World × Ages))
-        → CanStart no_pages (H.disk host.new).said (H.disk host.new).may_leave Stands pages_in savepoint_in commit_in past_end (H.disk host.old).now from
-        → Promised pages_in savepoint_in commit_in past_end (H.disk host.old) (H.disk host.new) (H.faults host.old) (H.faults host.new) from result bytes (S.left source.new) }
+pub fn run_script<H: Host, S: Source>(alloc: Global, host: &mut H, source: &mut S) -> Status
+    ensures promise { H.tells → RunPromise (H.disk host.old) (H.disk host.new) (H.faults host.old) (H.faults host.new) result (S.left source.old) (S.left source.new) }
+    ensures ends { EndsRun result }
+    ensures untouched { result ≡ Status.Memory → (host.new ≡ host.old) × (source.new ≡ source.old) }
     ensures script_cause { result ≡ Status.ScriptFault → Rose (S.faults source.old) (S.faults source.new) }
     ensures say_cause { result ≡ Status.SayFault → Rose (H.say_faults host.old) (H.say_faults host.new) }
 {

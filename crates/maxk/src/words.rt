@@ -1,38 +1,20 @@
 //! The words that the program is called with.
-ghost use Rattle.std.specs.Prelude.{◌≡◌, ◌≢◌, ◌≤◌, [], map, false, IfOk, MatchResult};
+ghost use Rattle.std.specs.Prelude.{◌≡◌, ◌≢◌, ◌+◌, ◌^◌, ◌<◌, ◌≤◌, ℕ, List, [], ◌∷◌, map, not, false, codes, length, None, Some, IfOk, MatchOption, MatchResult};
+ghost use Rattle.std.specs.List.{list_all};
 ghost use Rattle.std.specs.String.{string_bytes};
-ghost use Rattle.clap.specs.Words.{app_of, with_rule, fault_of, subcommand_of, subcommand_rows_of};
+ghost use Rattle.clap.specs.Words.{app_of, with_rule, fault_of, found_of, rows_of, subcommand_of, subcommand_rows_of};
 ghost use Rattle.clap.specs.declared.Command.TheViews.{out-Command as fields_of};
-ghost use Rattle.creation.specs.Standing.{IsSite};
-ghost use Rattle.maxk.specs.Words.{is_bad, argument, create_front_words, create_middle_words, create_words, run_words, command_line as line_of_words};
+ghost use Rattle.mdb_model.specs.Script.{is_bad_word as is_bad, create_of, number_of, numbers_of};
+ghost use Rattle.maxk.specs.Asked.{asked_by, IsRequest};
+ghost use Rattle.maxk.specs.Words.{argument, create_front_words, create_middle_words, create_words, run_words, command_line as line_of_words, counts_in, first_counts, last_counts, number_in, numbers_in, request_in, word_in, Gains, Lacks};
 
+use crate::asked::{Asked, Measures};
 use arrayvec::ArrayVec;
 use clap::error::ErrorKind;
 use clap::{Arg, ArgMatches, Command};
 use creation::can_create;
+use dbm_script::number;
 use std::alloc::{AllocError, Global};
-
-// The most digits of a number.
-const MOST_DIGITS: usize = 20;
-
-/// What a database is made with, within the limits.
-#[derive(Drop)]
-pub struct Measures {
-    /// What names the database.
-    pub birth: u64,
-    /// The pages of the log volume.
-    pub log_pages: u32,
-    /// The pages of each data volume.
-    pub volumes: ArrayVec<u32, 8>,
-    ghost site: { IsSite (record { birth = birth; volumes = volumes.items; log_pages = log_pages }) },
-}
-
-/// What the program is asked to do with the database of a folder.
-#[derive(Drop)]
-pub enum Asked<'a> {
-    Create { folder: &'a str, measures: Measures },
-    Run { folder: &'a str },
-}
 
 /// Why the words ask for nothing.
 #[derive(Debug, Drop, thiserror::Error)]
@@ -42,18 +24,6 @@ pub enum WordsFault {
     #[error("the words break the rules")]
     Usage,
 }
-
-// The arguments that count the pages of the data volumes.
-const VOLUME_WORDS: [&'static str; 8] = [
-    "DATAPAGES",
-    "DATAPAGES2",
-    "DATAPAGES3",
-    "DATAPAGES4",
-    "DATAPAGES5",
-    "DATAPAGES6",
-    "DATAPAGES7",
-    "DATAPAGES8",
-];
 
 // The command with one argument more.
 fn with_argument<'a>(
@@ -145,35 +115,93 @@ fn is_bad_word(word: &str) -> bool
     word.is_empty() || word.starts_with('-')
 }
 
-// The number of a word of digits.
-fn number(word: &str) -> Option<u64> {
-    if MOST_DIGITS < word.len() || !word.bytes().all(|byte| byte.is_ascii_digit()) {
-        return None;
-    }
-    word.parse::<u64>().ok()
+// The number of an argument, where its word is one.
+fn read_number(matches: &ArgMatches<'_>, name: &str) -> Option<u64>
+    ensures { MatchOption result ((n : ℕ) → n < 2 ^ 64 → number_in name.now (rows_of (found_of matches.now)) ≢ Some n)
+        (λ n. number_in name.now (rows_of (found_of matches.now)) ≡ Some n) }
+{
+    let word = matches.get_str(name)?;
+    number(word.as_bytes())
 }
 
-// The number of a word that counts pages.
-fn page_count(word: &str) -> Option<u32> {
-    u32::try_from(number(word)?).ok()
+// The pages that a word counts.
+fn page_count(word: &str) -> Option<u32>
+    ensures { MatchOption result ((n : ℕ) → n < 2 ^ 32 → number_of word.now ≢ Some n) (λ n. number_of word.now ≡ Some n) }
+{
+    let count = number(word.as_bytes())?;
+    if count <= u64::from(u32::MAX) {
+        Some(count as u32)
+    } else {
+        None
+    }
+}
+
+// The pages of the log volume.
+fn read_log_pages(matches: &ArgMatches<'_>) -> Option<u32>
+    ensures { MatchOption result ((n : ℕ) → n < 2 ^ 32 → number_in (codes "LOGPAGES") (rows_of (found_of matches.now)) ≢ Some n)
+        (λ n. number_in (codes "LOGPAGES") (rows_of (found_of matches.now)) ≡ Some n) }
+{
+    let word = matches.get_str("LOGPAGES")?;
+    page_count(word)
+}
+
+// Adds the pages of one data volume, where the argument is there.
+fn read_volume(matches: &ArgMatches<'_>, name: &str, volumes: &mut ArrayVec<u32, 8>) -> Option<()>
+    requires { length volumes.old.items < 8 }
+    ensures gains { MatchOption result (Lacks (word_in name.now (rows_of (found_of matches.now))))
+        (λ _. Gains (word_in name.now (rows_of (found_of matches.now))) volumes.old.items volumes.new.items) }
+    ensures room { length volumes.new.items ≤ length volumes.old.items + 1 }
+{
+    let Some(word) = matches.get_str(name) else {
+        return Some(());
+    };
+    volumes.push(page_count(word)?);
+    Some(())
+}
+
+// Adds the pages of the first four data volumes.
+fn read_first_volumes(matches: &ArgMatches<'_>, volumes: &mut ArrayVec<u32, 8>) -> Option<()>
+    requires { length volumes.old.items ≤ 4 }
+    ensures gains { MatchOption result (Lacks (first_counts (rows_of (found_of matches.now))))
+        (λ _. Gains (first_counts (rows_of (found_of matches.now))) volumes.old.items volumes.new.items) }
+    ensures room { length volumes.new.items ≤ length volumes.old.items + 4 }
+{
+    read_volume(matches, "DATAPAGES", volumes)?;
+    read_volume(matches, "DATAPAGES2", volumes)?;
+    read_volume(matches, "DATAPAGES3", volumes)?;
+    read_volume(matches, "DATAPAGES4", volumes)
+}
+
+// Adds those of the last four.
+fn read_last_volumes(matches: &ArgMatches<'_>, volumes: &mut ArrayVec<u32, 8>) -> Option<()>
+    requires { length volumes.old.items ≤ 4 }
+    ensures { MatchOption result (Lacks (last_counts (rows_of (found_of matches.now))))
+        (λ _. Gains (last_counts (rows_of (found_of matches.now))) volumes.old.items volumes.new.items) }
+{
+    read_volume(matches, "DATAPAGES5", volumes)?;
+    read_volume(matches, "DATAPAGES6", volumes)?;
+    read_volume(matches, "DATAPAGES7", volumes)?;
+    read_volume(matches, "DATAPAGES8", volumes)
 }
 
 // The pages of the data volumes, one word for each.
-fn read_volumes(matches: &ArgMatches<'_>) -> Option<ArrayVec<u32, 8>> {
+fn read_volumes(matches: &ArgMatches<'_>) -> Option<ArrayVec<u32, 8>>
+    ensures { MatchOption result (Lacks (counts_in (rows_of (found_of matches.now))))
+        (λ volumes. numbers_of (counts_in (rows_of (found_of matches.now))) ≡ Some volumes.items) }
+{
     let mut volumes = ArrayVec::new();
-    for name in VOLUME_WORDS {
-        let Some(word) = matches.get_str(name) else {
-            return Some(volumes);
-        };
-        volumes.push(page_count(word)?);
-    }
+    read_first_volumes(matches, &mut volumes)?;
+    read_last_volumes(matches, &mut volumes)?;
     Some(volumes)
 }
 
 // What a database is made with, where the words keep the limits.
-fn read_measures(matches: &ArgMatches<'_>) -> Option<Measures> {
-    let birth = number(matches.get_str("BIRTH")?)?;
-    let log_pages = page_count(matches.get_str("LOGPAGES")?)?;
+fn read_measures(matches: &ArgMatches<'_>) -> Option<Measures>
+    ensures { MatchOption result ((folder : List ℕ) → create_of folder (numbers_in (rows_of (found_of matches.now))) ≡ None)
+        (λ m. numbers_in (rows_of (found_of matches.now)) ≡ Some (m.birth ∷ m.log_pages ∷ m.volumes.items)) }
+{
+    let birth = read_number(matches, "BIRTH")?;
+    let log_pages = read_log_pages(matches)?;
     let volumes = read_volumes(matches)?;
     if can_create(birth, log_pages, &volumes) {
         Some(Measures {
@@ -187,25 +215,38 @@ fn read_measures(matches: &ArgMatches<'_>) -> Option<Measures> {
 }
 
 // What the matches of the whole command line ask for.
-fn read_asked<'a>(matches: &ArgMatches<'a>) -> Option<Asked<'a>> {
+fn read_asked(matches: &ArgMatches<'_>) -> Option<Asked>
+    ensures { MatchOption result (request_in (subcommand_rows_of matches.now) ≡ None) (IsRequest (request_in (subcommand_rows_of matches.now))) }
+{
     let (name, found) = matches.subcommand()?;
-    let folder = found.get_str("FOLDER")?;
     if name == "run" {
-        return Some(Asked::Run { folder });
+        return Some(Asked::Run);
     }
     let measures = read_measures(found)?;
-    Some(Asked::Create { folder, measures })
+    Some(Asked::Create(measures))
+}
+
+// Whether no word is empty, nor looks like an option.
+fn are_plain(words: &[String]) -> bool
+    ensures { result ≡ list_all (λ word. not (is_bad (string_bytes word))) words.now }
+{
+    words.iter().all(|word| !is_bad_word(word.as_str()))
 }
 
 /// What the words behind the program's name ask for. `Usage` where they break the rules.
-pub fn read_words(alloc: Global, words: &[String]) -> Result<Asked<'_>, WordsFault> {
-    if words.iter().any(|word| is_bad_word(word.as_str())) {
+pub fn read_words(alloc: Global, words: &[String]) -> Result<Asked, WordsFault>
+    ensures { MatchResult result (IsRequest (asked_by (map string_bytes words.now)))
+        (λ fault. fault ≡ WordsFault.Usage → asked_by (map string_bytes words.now) ≡ None) }
+{
+    if !are_plain(words) {
         return Err(WordsFault::Usage);
     }
-    let matches = read_matches(alloc, words)?;
-    match read_asked(&matches) {
-        Some(asked) => Ok(asked),
-        None => Err(WordsFault::Usage),
+    match read_matches(alloc, words) {
+        Ok(matches) => match read_asked(&matches) {
+            Some(asked) => Ok(asked),
+            None => Err(WordsFault::Usage),
+        },
+        Err(fault) => Err(fault),
     }
 }
 

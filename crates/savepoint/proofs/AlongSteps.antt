@@ -1,5 +1,5 @@
 -- One leaf more.
-use Rattle.std.proofs.Common.{◌≡◌, inl, inr, ℕ, ◌+◌, ◌<◌, List, length, Bool, refl, ap, sym, subst, ◌∙◌, arith}
+use Rattle.std.proofs.Common.{◌≡◌, ◌⊎◌, inl, inr, ℕ, ◌+◌, ◌<◌, List, length, Bool, refl, ap, sym, subst, ◌∙◌, arith}
 use Rattle.std.specs.Prelude.{sum, Result, Ok, Err, OnOk}
 use Rattle.mdb_model.specs.declared.fault.Device.TheVariants.{Data}
 use Rattle.mdb_model.specs.Images.{Image}
@@ -12,7 +12,7 @@ use Rattle.volume_disk.proofs.Writes.{writes_on, writes_more, writes_agree, area
 use Rattle.mdb_bytes.specs.declared.converter_pages.ConverterEntry.{ConverterEntry}
 use Rattle.converter.specs.Maps.{Maps, IsSound, AreUnused, block_of}
 use Rattle.converter.specs.Tree.{LeafHeld, RootHeld, HasTree}
-use Rattle.converter.specs.Own.{OneOwn, LeavesHeld}
+use Rattle.converter.specs.Own.{OneOwn, Taken, LeavesHeld}
 use Rattle.converter.proofs.OwnSteps.{own_on, fewer_on, held_stays, held_more}
 use Rattle.savepoint.specs.Stands.{IsPlaced}
 use Rattle.std.proofs.lemmas.Bool.{cases_eq}
@@ -28,7 +28,38 @@ along_more m0 m next f0 f less n before one here = record {
     | inl is ↦ subst (λ (p : ℕ). 1 < block_of next.frozen p) (sym is) here
     | inr other ↦ omega (arith, ap (λ (e : ConverterEntry). e.block) (one.others q other), before.placed q some (omega (arith, le, other)))
   ];
+  taken = λ b is. elim (before.taken b is) [
+    | inl free ↦ elim (one.taken b free) [
+      | inl still ↦ inl still
+      | inr own ↦ inr (n + 1, omega arith, omega arith, own)
+    ]
+    | inr (q, some, le, own) ↦ inr (q, some, omega (arith, le), ap (λ (e : ConverterEntry). e.block) (one.others q (λ same. omega (arith, le, same))) ∙ own)
+  ];
 }
+
+-- the places of the leaves are places from 1 on
+pub leaves_taken : (m0 m : Maps) (f0 f : List Bool) (n : ℕ) → Along m0 m f0 f n → Taken 1 f0 f m
+leaves_taken m0 m f0 f n along b is = elim (along.taken b is) [
+  | inl free ↦ inl free
+  | inr (q, some, le, own) ↦ inr (q, omega (arith, some), own)
+]
+
+-- all places may be meant
+pub taken_any : (f0 f : List Bool) (m : Maps) → Taken 1 f0 f m → Taken 0 f0 f m
+taken_any f0 f m taken b is = elim (taken b is) [
+  | inl free ↦ inl free
+  | inr (q, some, own) ↦ inr (q, omega arith, own)
+]
+
+-- the root as well
+pub root_taken : (m next : Maps) (f0 f less : List Bool) → Taken 1 f0 f m → OneOwn m next f less 0 → Taken 0 f0 less next
+root_taken m next f0 f less taken one b is = elim (taken b is) [
+  | inl free ↦ elim (one.taken b free) [
+    | inl still ↦ inl still
+    | inr own ↦ inr (0, omega arith, own)
+  ]
+  | inr (q, some, own) ↦ inr (q, omega arith, ap (λ (e : ConverterEntry). e.block) (one.others q (λ same. omega (arith, some, same))) ∙ own)
+]
 
 pub goes_free : (sizes : List ℕ) (f0 f : List Bool) (d0 d1 d2 : Disk) → ((b : ℕ) → IsFree f b → IsFree f0 b) → Goes d0 d1 (Writes sizes (IsFree f0)) → Goes d1 d2 (Writes sizes (IsFree f)) → Goes d0 d2 (Writes sizes (IsFree f0))
 goes_free sizes f0 f d0 d1 d2 few one two =

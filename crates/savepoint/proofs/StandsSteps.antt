@@ -96,7 +96,7 @@ pub free_writes : (sizes : List ℕ) (flags : List Bool) (maps : Maps) (d0 d1 : 
 free_writes sizes flags maps d0 d1 unused goes = widen d0 d1 _ _ goes (λ a b left writes. free_keeps sizes flags maps a b unused writes)
 
 -- a switch leaves each block from 2 on
-switch_blocks : (sizes : List ℕ) (a b : Image) (c : ℕ) → 2 ≤ get_or sizes 0 0 → 1 < c → SlotsTorn restart_place a b → block_at sizes b c ≡ block_at sizes a c
+pub switch_blocks : (sizes : List ℕ) (a b : Image) (c : ℕ) → 2 ≤ get_or sizes 0 0 → 1 < c → SlotsTorn restart_place a b → block_at sizes b c ≡ block_at sizes a c
 switch_blocks sizes a b c big high torn = elim (cases_eq (place 1 sizes c).0 1) [
   | inl first ↦
       let d_is : Data (place 1 sizes c).0 ≡ Data 1 = ap Data first in

@@ -1,7 +1,7 @@
 -- How far the leaves are written.
 --     Along      the maps
 --     Wrote      the devices
-use Rattle.std.specs.Prelude.{◌≡◌, ℕ, ◌<◌, ◌≤◌, List, Bool}
+use Rattle.std.specs.Prelude.{◌≡◌, ◌⊎◌, ℕ, ◌<◌, ◌≤◌, List, Bool}
 use Rattle.mdb_host.specs.Disk.{Disk, Goes}
 use Rattle.free_blocks.specs.Free.{IsFree}
 use Rattle.volume_disk.specs.Blocks.{Writes, block_at}
@@ -15,6 +15,7 @@ pub record Along (first now : Maps) (flags left : List Bool) (n : ℕ) : Type 0 
   pub unused : AreUnused now left
   pub later : (q : ℕ) → n < q → entry_at now.frozen q ≡ entry_at first.frozen q
   pub placed : (q : ℕ) → 0 < q → q ≤ n → 1 < block_of now.frozen q
+  pub taken : (b : ℕ) → IsFree flags b → IsFree left b ⊎ ((q : ℕ) × (0 < q) × (q ≤ n) × (block_of now.frozen q ≡ b))
 
 -- the devices, after n leaves
 pub record Wrote (sizes : List ℕ) (flags : List Bool) (m : Maps) (n : ℕ) (old new : Disk) : Type 0 where

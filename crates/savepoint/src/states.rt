@@ -10,10 +10,10 @@ ghost use Rattle.free_blocks.specs.Free.{IsFree, free_count};
 ghost use Rattle.volume_disk.specs.Blocks.{IsArea, Writes, block_at, IsSettled};
 ghost use Rattle.gate_slots.specs.declared.body.SlotBody.TheVariants.{Restart};
 ghost use Rattle.gate_slots.specs.Slots.{IsReady};
-ghost use Rattle.gate_slots.specs.Steps.{Switches, Switched as SwitchedOver};
+ghost use Rattle.gate_slots.specs.Steps.{SlotsTorn, Switches, Switched as SwitchedOver};
 ghost use Rattle.converter.specs.Maps.{Maps, entry_at, block_of, AreUnused, Leaves, Given, settled};
 ghost use Rattle.converter.specs.Tree.{HasTree};
-ghost use Rattle.converter.specs.Own.{OwnOnly, Fewer, SavedLeaves};
+ghost use Rattle.converter.specs.Own.{OwnOnly, Fewer, Taken, SavedLeaves};
 ghost use Rattle.savepoint.specs.Stands.{restart_place, Stands, AtSwitch, IsPlaced, KeepsMaps};
 
 use crate::writing::write_settled;
@@ -125,6 +125,8 @@ impl PagesWritten {
         ensures own { OwnOnly converter.old converter.new }
         ensures fewer { Fewer free.old free.new converter.old.conv }
         ensures unused { AreUnused converter.new free.new }
+        // No block is lost: what is not free any more is a page of the converter.
+        ensures taken { Taken 0 free.old free.new converter.new }
         ensures goes { H.tells → Goes (H.disk host.old) (H.disk host.new) (Writes volumes.now (IsFree free.old)) }
         ensures seen { H.tells → Writes volumes.now (IsFree free.old) (H.disk host.old).seen (H.disk host.new).seen }
         ensures held { OnOk
@@ -170,6 +172,7 @@ impl ConverterWritten {
         requires within { H.tells → IsWithin (H.disk host.old).seen slots.old.place.device (8192 * slots.old.place.page) 16384 }
         ensures any_moment { H.tells → Goes (H.disk host.old) (H.disk host.new) (Switches slots.old (Restart rec.now)) }
         ensures there { OnOk result (H.tells → Arrives (H.disk host.old) (H.disk host.new) (SwitchedOver slots.old slots.new (Restart rec.now))) }
+        ensures seen { H.tells → SlotsTorn slots.old.place (H.disk host.old).seen (H.disk host.new).seen }
         // At each moment every image stands for the last record's map or for the new one.
         ensures crash { H.tells → (sizes : List ℕ) (was : RestartRecord) (old new : List ConverterEntry) (conv : ℕ) (before after : ℕ → List ℕ)
             → AtSwitch (H.disk host.old) sizes slots.old was old new conv before after

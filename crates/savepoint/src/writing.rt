@@ -8,7 +8,7 @@ ghost use Rattle.volume_disk.specs.Blocks.{IsArea, Writes, block_at, IsSettled};
 ghost use Rattle.converter.specs.Maps.{Maps, IsSound, entry_at, block_of, AreUnused};
 ghost use Rattle.converter.specs.Tree.{LeafHeld, RootHeld, HasTree};
 ghost use Rattle.savepoint.specs.Stands.{IsPlaced};
-ghost use Rattle.converter.specs.Own.{OwnOnly, Fewer, OneOwn, LeavesHeld, SavedLeaves};
+ghost use Rattle.converter.specs.Own.{OwnOnly, Fewer, Taken, OneOwn, LeavesHeld, SavedLeaves};
 
 use converter::{Converter, FrozenMap};
 use free_blocks::FreeBlocks;
@@ -68,6 +68,7 @@ fn write_leaves<H: Host>(
     ensures own { OwnOnly converter.old converter.new }
     ensures fewer { Fewer free.old free.new (converter.old.conv - 1) }
     ensures unused { AreUnused converter.new free.new }
+    ensures taken { Taken 1 free.old free.new converter.new }
     ensures goes { H.tells → Goes (H.disk host.old) (H.disk host.new) (Writes volumes.now (IsFree free.old)) }
     ensures seen { H.tells → Writes volumes.now (IsFree free.old) (H.disk host.old).seen (H.disk host.new).seen }
     ensures held { OnOk result (H.tells → LeavesHeld converter.new (converter.new.conv - 1) (block_at volumes.now (H.disk host.new).seen)) }
@@ -100,6 +101,7 @@ fn write_tree<H: Host>(
     ensures own { OwnOnly converter.old converter.new }
     ensures fewer { Fewer free.old free.new converter.old.conv }
     ensures unused { AreUnused converter.new free.new }
+    ensures taken { Taken 0 free.old free.new converter.new }
     ensures goes { H.tells → Goes (H.disk host.old) (H.disk host.new) (Writes volumes.now (IsFree free.old)) }
     ensures seen { H.tells → Writes volumes.now (IsFree free.old) (H.disk host.old).seen (H.disk host.new).seen }
     ensures held { OnOk result (H.tells → HasTree converter.new.frozen converter.new.conv (block_at volumes.now (H.disk host.new).seen)) }
@@ -133,6 +135,7 @@ pub(crate) fn write_settled<H: Host>(
     ensures own { OwnOnly converter.old converter.new }
     ensures fewer { Fewer free.old free.new converter.old.conv }
     ensures unused { AreUnused converter.new free.new }
+    ensures taken { Taken 0 free.old free.new converter.new }
     ensures goes { H.tells → Goes (H.disk host.old) (H.disk host.new) (Writes volumes.now (IsFree free.old)) }
     ensures seen { H.tells → Writes volumes.now (IsFree free.old) (H.disk host.old).seen (H.disk host.new).seen }
     ensures held { OnOk

@@ -7,3 +7,6 @@ mod open_change;
 mod space;
 
 pub use space::Space;
+
+#[cfg(test)]
+mod tests;

@@ -1,5 +1,5 @@
 // Scripts over a host in memory: the lines that are built, the states, the limits of the log, records
-// and volumes that are damaged, faults of the outside, and a stop at each moment.
+// and volumes that are damaged, and a stop at each moment.
 use super::*;
 use arrayvec::ArrayVec;
 use creation::can_create;
@@ -51,9 +51,9 @@ fn replace<H: Host>(host: &mut H, device: Device, pages: Option<u32>) {
     }
 }
 
-fn run_script(rt: &HostRuntime, host: &mut MemHost, script: &[u8]) -> Result<Status, Fail> {
+fn answered(rt: &HostRuntime, host: &mut MemHost, script: &[u8]) -> Result<Status, Fail> {
     let mut source = MemSource::new(rt.alloc(), script, 7, &[])?;
-    Ok(run(rt.alloc(), host, &mut source))
+    Ok(run_script(rt.alloc(), host, &mut source))
 }
 
 // A put of so many bytes under a key of one.
@@ -142,7 +142,7 @@ const ROWS: [(&'static [u8], &'static [u8]); 17] = [
 fn answers_each_line(rt: HostRuntime) -> Result<(), Fail> {
     for (script, want) in ROWS {
         let mut host = new_host(&rt, 4)?;
-        assert_eq!(rt; run_script(&rt, &mut host, script)?, Status::Done);
+        assert_eq!(rt; answered(&rt, &mut host, script)?, Status::Done);
         assert_eq!(rt; host.output(), want);
     }
     Ok(())
@@ -169,7 +169,7 @@ fn the_log_is_full_at_its_last_byte(rt: HostRuntime) -> Result<(), Fail> {
         want.extend_from_slice(text)?;
     }
     let mut host = new_host(&rt, 4)?;
-    assert_eq!(rt; run_script(&rt, &mut host, &script)?, Status::Done);
+    assert_eq!(rt; answered(&rt, &mut host, &script)?, Status::Done);
     assert_eq!(rt; host.output(), want.as_slice());
     Ok(())
 }
@@ -182,7 +182,7 @@ fn a_large_transaction_is_refused(rt: HostRuntime) -> Result<(), Fail> {
     }
     script.extend_from_slice(b"s 1 rollback\ns 2 get 1 'a'\n")?;
     let mut host = new_host(&rt, 4)?;
-    assert_eq!(rt; run_script(&rt, &mut host, &script)?, Status::Done);
+    assert_eq!(rt; answered(&rt, &mut host, &script)?, Status::Done);
     assert!(rt;
         host.output()
             .ends_with(b"OK PUT\nERR 6 TRANSLARGE 16621\nOK ROLLBACK\nNONE\n")
@@ -202,7 +202,7 @@ fn put_of_lengths(rt: &HostRuntime, key: usize, value: usize) -> Result<Vec<u8>,
     }
     script.extend_from_slice(b"'\ns 64 commit\nkill\ndb_online\ns 1 scan 500\n")?;
     let mut host = new_host(rt, 8)?;
-    let _ = run_script(rt, &mut host, &script)?;
+    let _ = answered(rt, &mut host, &script)?;
     Ok(host.output().to_vec(rt.alloc())?)
 }
 
@@ -227,7 +227,7 @@ fn the_longest_key_and_value_are_kept(rt: HostRuntime) -> Result<(), Fail> {
 
 // Whether a restart of a host that said nothing yet, in both ways, is refused so.
 fn refuses(rt: &HostRuntime, host: &mut MemHost, want: &[u8]) -> Result<bool, Fail> {
-    let _ = run_script(rt, host, b"db_online\ndb_admin\ndb_state\n")?;
+    let _ = answered(rt, host, b"db_online\ndb_admin\ndb_state\n")?;
     let mut both = Vec::new(rt.alloc());
     for text in [want, want, b"OK STATE OFFLINE\n".as_slice()] {
         both.extend_from_slice(text)?;
@@ -258,7 +258,7 @@ fn names_a_volume_that_does_not_fit(rt: HostRuntime) -> Result<(), Fail> {
     for (device, pages, want) in REPLACED {
         let mut host = new_host(&rt, 4)?;
         replace(&mut host, device, pages);
-        assert_eq!(rt; run_script(&rt, &mut host, b"db_online\n")?, Status::Done);
+        assert_eq!(rt; answered(&rt, &mut host, b"db_online\n")?, Status::Done);
         assert_eq!(rt; host.output(), want);
     }
     Ok(())
@@ -346,7 +346,7 @@ const GROUP: &[u8] =
 fn the_first_commit_has_these_bytes(rt: HostRuntime) -> Result<(), Fail> {
     let mut host = new_host(&rt, 4)?;
     let script = b"db_online\ns 1 put 1 'k' 'v'\ns 1 commit\n";
-    assert_eq!(rt; run_script(&rt, &mut host, script)?, Status::Done);
+    assert_eq!(rt; answered(&rt, &mut host, script)?, Status::Done);
     let mut page = [0u8; 8192];
     assert_eq!(rt; host.size(Device::Log), Some(4));
     if host.size(Device::Log) == Some(4) {
@@ -354,54 +354,6 @@ fn the_first_commit_has_these_bytes(rt: HostRuntime) -> Result<(), Fail> {
     }
     assert!(rt; page.starts_with(GROUP));
     assert!(rt; page[GROUP.len()] != 0x4F);
-    Ok(())
-}
-
-#[test]
-fn a_device_that_is_there_bars_a_new_database(rt: HostRuntime) -> Result<(), Fail> {
-    for device in [
-        Device::Data(1),
-        Device::Data(8),
-        Device::Log,
-        Device::Medium(1),
-        Device::Medium(99),
-    ] {
-        let mut host = MemHost::new(rt.alloc(), &[])?;
-        replace(&mut host, device, Some(2));
-        let before = host.now();
-        let made = make_database(rt.alloc(), &mut host, 4);
-        assert!(rt; matches!(made, Err(CreateFault::Exists)));
-        assert_eq!(rt; host.now(), before);
-        assert_eq!(rt; host.size(device), Some(2));
-    }
-    let mut made = new_host(&rt, 4)?;
-    assert!(rt;
-        matches!(
-            make_database(rt.alloc(), &mut made, 4),
-            Err(CreateFault::Exists)
-        )
-    );
-    let mut failing = MemHost::new(rt.alloc(), &[1])?;
-    assert!(rt;
-        matches!(
-            make_database(rt.alloc(), &mut failing, 4),
-            Err(CreateFault::Failed)
-        )
-    );
-    Ok(())
-}
-
-#[test]
-fn faults_of_the_outside_end_the_call(rt: HostRuntime) -> Result<(), Fail> {
-    let mut host = MemHost::new(rt.alloc(), &[])?;
-    let mut source = MemSource::new(rt.alloc(), b"kill\nkill\n", 5, &[2])?;
-    assert_eq!(rt;
-        run(rt.alloc(), &mut host, &mut source),
-        Status::ScriptFault
-    );
-    assert_eq!(rt; host.output(), b"OK OFFLINE\n".as_slice());
-    let mut mute = MemHost::new(rt.alloc(), &[1])?;
-    assert_eq!(rt; run_script(&rt, &mut mute, b"kill\n")?, Status::SayFault);
     Ok(())
 }
 
@@ -428,26 +380,26 @@ fn a_commit_whose_sync_fails_is_whole_or_not_at_all(rt: HostRuntime) -> Result<(
     let mut script = b"db_online\n".to_vec(rt.alloc())?;
     push_commits(&mut script, b"abcde")?;
     let mut whole = new_host(&rt, 4)?;
-    assert_eq!(rt; run_script(&rt, &mut whole, &script)?, Status::Done);
+    assert_eq!(rt; answered(&rt, &mut whole, &script)?, Status::Done);
     assert!(rt; whole.output().ends_with(b"OK PUT\nCOMMIT 5\n"));
     // The last call says the reply, and the one before it is the second sync.
     let second_sync = whole.now().saturating_sub(1);
     let mut host = MemHost::new(rt.alloc(), &[second_sync])?;
     assert!(rt; make_database(rt.alloc(), &mut host, 4).is_ok());
     script.extend_from_slice(b"s 1 get 1 'k'\n")?;
-    assert_eq!(rt; run_script(&rt, &mut host, &script)?, Status::Done);
+    assert_eq!(rt; answered(&rt, &mut host, &script)?, Status::Done);
     assert_eq!(rt; host.output(), FIFTH_FAILS);
     for pick in [0, 1, 2, u64::MAX] {
         let now = host.now();
         let mut left = host.image(rt.alloc(), now, pick)?;
         assert_eq!(rt;
-            run_script(&rt, &mut left, b"db_online\ns 1 scan 1\n")?,
+            answered(&rt, &mut left, b"db_online\ns 1 scan 1\n")?,
             Status::Done
         );
         assert!(rt; left.output() == FOUR || left.output() == FIVE);
     }
     assert_eq!(rt;
-        run_script(&rt, &mut host, b"db_online\ns 1 scan 1\n")?,
+        answered(&rt, &mut host, b"db_online\ns 1 scan 1\n")?,
         Status::Done
     );
     assert!(rt; host.output().ends_with(FOUR) || host.output().ends_with(FIVE));
@@ -467,12 +419,12 @@ const AFTER: &[u8] = b"OK ONLINE 1\nVALUE 'v'\n";
 fn each_stop_leaves_the_commit_whole_or_not_at_all(rt: HostRuntime) -> Result<(), Fail> {
     let mut host = new_host(&rt, 4)?;
     let made = host.now();
-    assert_eq!(rt; run_script(&rt, &mut host, STORED)?, Status::Done);
+    assert_eq!(rt; answered(&rt, &mut host, STORED)?, Status::Done);
     let end = host.now();
     for at in made..=end {
         for pick in [0, 1, 2, u64::MAX] {
             let mut left = host.image(rt.alloc(), at, pick)?;
-            assert_eq!(rt; run_script(&rt, &mut left, AGAIN)?, Status::Done);
+            assert_eq!(rt; answered(&rt, &mut left, AGAIN)?, Status::Done);
             let found = left.output();
             assert!(rt; found == AFTER || (at < end && found == BEFORE));
         }
@@ -504,7 +456,7 @@ fn a_ring_of_other_bytes_is_named(rt: HostRuntime) -> Result<(), Fail> {
     for (bytes, want) in RINGS {
         let mut host = new_host(&rt, 4)?;
         assert_eq!(rt; write_over(&mut host, Device::Log, 16384, bytes), Ok(()));
-        assert_eq!(rt; run_script(&rt, &mut host, b"db_online\n")?, Status::Done);
+        assert_eq!(rt; answered(&rt, &mut host, b"db_online\n")?, Status::Done);
         assert_eq!(rt; host.output(), want);
     }
     Ok(())
@@ -515,7 +467,10 @@ fn a_script_has_an_end(rt: HostRuntime) -> Result<(), Fail> {
     let lines = vec![in rt.alloc(); b'\n'; 16_777_217]?;
     let mut host = MemHost::new(rt.alloc(), &[])?;
     let mut source = MemSource::new(rt.alloc(), &lines, 65_536, &[])?;
-    assert_eq!(rt; run(rt.alloc(), &mut host, &mut source), Status::LinesEnd);
+    assert_eq!(rt;
+        run_script(rt.alloc(), &mut host, &mut source),
+        Status::LinesEnd
+    );
     assert!(rt; host.output().is_empty());
     Ok(())
 }
@@ -538,14 +493,17 @@ fn a_second_view_of_the_files_has_the_commit(rt: HostRuntime) -> Result<(), Fail
         7,
         &[],
     )?;
-    assert_eq!(rt; run(rt.alloc(), &mut first, &mut script), Status::Done);
+    assert_eq!(rt;
+        run_script(rt.alloc(), &mut first, &mut script),
+        Status::Done
+    );
     let mut second = FileHost::new(&rt, rt.alloc(), "db")?;
     let mut page = [0u8; 8192];
     assert_eq!(rt; second.size(Device::Log), Some(4));
     assert_eq!(rt; second.read(Device::Log, 16384, &mut page), Ok(()));
     let mut copy = new_host(&rt, 4)?;
     assert_eq!(rt; write_over(&mut copy, Device::Log, 16384, &page), Ok(()));
-    assert_eq!(rt; run_script(&rt, &mut copy, AGAIN)?, Status::Done);
+    assert_eq!(rt; answered(&rt, &mut copy, AGAIN)?, Status::Done);
     assert_eq!(rt; copy.output(), AFTER);
     remove_volumes(&mut first);
     Ok(())

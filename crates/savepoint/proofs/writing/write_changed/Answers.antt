@@ -9,7 +9,7 @@ use Rattle.converter.proofs.OwnSteps.{took_one}
 use Rattle.savepoint.proofs.writing.write_changed.Goals as goal
 
 pub returns-then-leaf_changed-clause-one : goal.returns-then-leaf_changed-clause-one
-returns-then-leaf_changed-clause-one g c = took_one _ _ _ _ (c.args.leaf + 1) c.args.map.now.savepoint _ c.requires.leaf c.requires.unused c.write_leaf.ensures.took
+returns-then-leaf_changed-clause-one g c = took_one _ _ _ _ (c.args.leaf + 1) c.args.map.now.savepoint _ refl c.requires.leaf c.requires.unused c.write_leaf.ensures.took
 
 pub returns-then-leaf_changed-clause-goes : goal.returns-then-leaf_changed-clause-goes
 returns-then-leaf_changed-clause-goes g c told =

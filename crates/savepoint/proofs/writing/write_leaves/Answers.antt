@@ -1,6 +1,6 @@
-use Rattle.std.proofs.Common.{◌∙◌, sym, arith}
+use Rattle.std.proofs.Common.{◌∙◌, ◌+◌, sym, arith}
 use Rattle.free_blocks.specs.Free.{IsFree}
-use Rattle.savepoint.proofs.AlongSteps.{along_more, wrote_more, goes_free, still_area}
+use Rattle.savepoint.proofs.AlongSteps.{along_more, leaves_taken, wrote_more, goes_free, still_area}
 use Rattle.savepoint.proofs.writing.write_leaves.Goals as goal
 
 pub write_changed-requires-clause-there : goal.write_changed-requires-clause-there
@@ -10,6 +10,14 @@ write_changed-requires-clause-there g c told =
 pub returns-in_err-write_changed-clause-goes : goal.returns-in_err-write_changed-clause-goes
 returns-in_err-write_changed-clause-goes g c told =
     goes_free c.args.volumes.now c.args.free.now c.loop-leaf.free _ _ _ c.loop-leaf.invariant.along.fewer.only (c.loop-leaf.invariant.wrote told).goes (c.write_changed.ensures.goes told)
+
+pub returns-in_err-write_changed-clause-taken : goal.returns-in_err-write_changed-clause-taken
+returns-in_err-write_changed-clause-taken g c =
+    leaves_taken c.args.converter.now c.write_changed.new.converter c.args.free.now c.write_changed.new.free (c.loop-leaf.leaf + 1)
+    (along_more _ c.loop-leaf.converter _ _ c.loop-leaf.free _ c.loop-leaf.leaf c.loop-leaf.invariant.along c.write_changed.ensures.one c.write_changed.ensures.placed)
+
+pub returns-clause-taken : goal.returns-clause-taken
+returns-clause-taken g c = leaves_taken _ _ _ _ _ c.loop-leaf.invariant.along
 
 pub loop-leaf-preserved : goal.loop-leaf-preserved
 loop-leaf-preserved g c = record {

@@ -1,8 +1,8 @@
-use Rattle.std.proofs.Common.{◌∙◌, ◌-◌, ◌<◌, sym, arith}
+use Rattle.std.proofs.Common.{◌∙◌, ◌-◌, ◌<◌, refl, sym, arith}
 use Rattle.mdb_host.proofs.Moments.{on_ok}
 use Rattle.free_blocks.specs.Free.{IsFree}
 use Rattle.converter.proofs.OwnSteps.{took_one, fewer_on}
-use Rattle.savepoint.proofs.AlongSteps.{goes_taken, writes_taken, whole_tree, still_area, all_placed, always}
+use Rattle.savepoint.proofs.AlongSteps.{goes_taken, writes_taken, whole_tree, still_area, all_placed, always, root_taken, taken_any}
 use Rattle.savepoint.proofs.writing.write_tree.Goals as goal
 
 pub write_root-root-requires-clause-there : goal.write_root-root-requires-clause-there
@@ -13,12 +13,12 @@ pub returns-clause-fewer : goal.returns-clause-fewer
 returns-clause-fewer g c =
     let some : 0 < c.write_leaves.new.converter.conv = omega (arith, c.leaves-old.ensures.sound.leaves) in
     fewer_on c.args.free.now c.write_leaves.new.free c.write_root-root.new.free (c.args.converter.now.conv - 1) 1 c.args.converter.now.conv (omega (arith, some, c.write_leaves.ensures.own.conv)) c.write_leaves.ensures.fewer
-    (took_one c.write_leaves.new.converter _ c.write_leaves.new.free _ 0 c.args.map.now.savepoint _ some c.write_leaves.ensures.unused c.write_root-root.ensures.took).fewer
+    (took_one c.write_leaves.new.converter _ c.write_leaves.new.free _ 0 c.args.map.now.savepoint _ refl some c.write_leaves.ensures.unused c.write_root-root.ensures.took).fewer
 
 pub returns-clause-unused : goal.returns-clause-unused
 returns-clause-unused g c =
     let some : 0 < c.write_leaves.new.converter.conv = omega (arith, c.leaves-old.ensures.sound.leaves) in
-    (took_one c.write_leaves.new.converter _ c.write_leaves.new.free _ 0 c.args.map.now.savepoint _ some c.write_leaves.ensures.unused c.write_root-root.ensures.took).unused
+    (took_one c.write_leaves.new.converter _ c.write_leaves.new.free _ 0 c.args.map.now.savepoint _ refl some c.write_leaves.ensures.unused c.write_root-root.ensures.took).unused
 
 pub returns-clause-goes : goal.returns-clause-goes
 returns-clause-goes g c told =
@@ -29,13 +29,22 @@ returns-clause-held g c = on_ok c.write_root-root.result _ _ (λ root told.
     let some : 0 < c.write_leaves.new.converter.conv = omega (arith, c.leaves-old.ensures.sound.leaves) in
     whole_tree c.args.volumes.now c.write_leaves.new.converter c.write_root-root.new.self c.write_leaves.new.free c.write_root-root.new.free (c.write_leaves.new.converter.conv - 1)
     (g.H.Host.disk c.write_leaves.new.host).seen (g.H.Host.disk c.write_root-root.new.host).seen c.leaves-old.ensures.sound c.write_leaves.ensures.unused (c.requires.area.1 ∙ sym c.write_leaves.ensures.own.area)
-    (took_one c.write_leaves.new.converter _ c.write_leaves.new.free _ 0 c.args.map.now.savepoint _ some c.write_leaves.ensures.unused c.write_root-root.ensures.took)
+    (took_one c.write_leaves.new.converter _ c.write_leaves.new.free _ 0 c.args.map.now.savepoint _ refl some c.write_leaves.ensures.unused c.write_root-root.ensures.took)
     (writes_taken c.args.volumes.now c.write_leaves.new.free _ _ _ c.write_root-root.ensures.took.was_free (c.write_root-root.ensures.calls told).seen)
     (omega (arith, some)) (c.in_ok-write_leaves.ensures.held told) (root told)) c.write_root-root.ensures.written
 
 pub returns-clause-placed : goal.returns-clause-placed
 returns-clause-placed g c =
     let some : 0 < c.write_leaves.new.converter.conv = omega (arith, c.leaves-old.ensures.sound.leaves) in
-    let one = took_one c.write_leaves.new.converter c.write_root-root.new.self c.write_leaves.new.free c.write_root-root.new.free 0 c.args.map.now.savepoint _ some c.write_leaves.ensures.unused c.write_root-root.ensures.took in
+    let one = took_one c.write_leaves.new.converter c.write_root-root.new.self c.write_leaves.new.free c.write_root-root.new.free 0 c.args.map.now.savepoint _ refl some c.write_leaves.ensures.unused c.write_root-root.ensures.took in
     always c.write_root-root.result _ (all_placed c.args.volumes.now c.write_leaves.new.converter c.write_root-root.new.self c.write_leaves.new.free c.write_root-root.new.free c.leaves-new.ensures.sound c.write_leaves.ensures.unused
     (c.requires.area.1 ∙ sym c.write_leaves.ensures.own.area ∙ sym one.own.area) one c.write_root-root.ensures.took.was_free c.in_ok-write_leaves.ensures.placed)
+
+pub returns-in_err-write_leaves-clause-taken : goal.returns-in_err-write_leaves-clause-taken
+returns-in_err-write_leaves-clause-taken g c = taken_any c.args.free.now c.write_leaves.new.free c.write_leaves.new.converter c.write_leaves.ensures.taken
+
+pub returns-clause-taken : goal.returns-clause-taken
+returns-clause-taken g c =
+    let some : 0 < c.write_leaves.new.converter.conv = omega (arith, c.leaves-old.ensures.sound.leaves) in
+    root_taken c.write_leaves.new.converter c.write_root-root.new.self c.args.free.now c.write_leaves.new.free c.write_root-root.new.free c.write_leaves.ensures.taken
+    (took_one c.write_leaves.new.converter _ c.write_leaves.new.free _ 0 c.args.map.now.savepoint _ refl some c.write_leaves.ensures.unused c.write_root-root.ensures.took)

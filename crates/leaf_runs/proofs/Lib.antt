@@ -1,0 +1,13 @@
+pub mod LeafLaw
+pub mod RowLists
+pub mod LeafReads
+pub mod Chains
+pub mod Places
+pub mod Walks
+pub mod RowsLaw
+pub mod Gets
+pub mod Causes
+pub mod Scans
+pub mod PageBound
+pub mod LeafEdits
+pub mod PageSteps

@@ -1,0 +1,132 @@
+//! A row leaf as a sorted list of rows, read and edited in place.
+ghost use Rattle.std.specs.Prelude.{◌≡◌, ◌+◌, ◌<◌, ◌≤◌, ℕ, List, length, ◌↔◌, IsTrue, Some, true, Result, MatchResult, slice_get};
+ghost use Rattle.std.specs.FinMap.{find};
+ghost use Rattle.mdb_bytes.specs.TablePages.{RowLeaf};
+ghost use Rattle.mdb_bytes.specs.PageReadings.{row_leaf_of};
+ghost use Rattle.mdb_bytes.specs.Held.{IsRow};
+ghost use Rattle.sorted_places.specs.Search.{IsAt, IsGap};
+ghost use Rattle.leaf_runs.specs.Sights.{StandsHere, Sees};
+ghost use Rattle.leaf_runs.specs.Behind.{IsCut, IsBehind};
+ghost use Rattle.leaf_runs.specs.Leaves.{by_bytes, key_of, all_below, IsRunLeaf};
+
+use mdb_bytes::{PageHead, check_row_leaf, page_head};
+use mdb_model::bytes::{KeyBuf, ValueBuf};
+use mdb_model::name::Table;
+use row_page::{count_of, find, key_of, next_of, value_of};
+
+/// What a walk along a run learns of a leaf.
+#[derive(Clone, Copy, Debug)]
+pub(crate) struct Sight {
+    /// Whether the key stands or would stand here, among the leaves from this one on.
+    pub(crate) is_here: bool,
+    /// The page of the next leaf, 0 for none.
+    pub(crate) next: u32,
+}
+
+fn names(head: PageHead, table: Table, number: u32) -> bool
+    ensures { IsTrue result ↔ ((head.table ≡ table.0) × (head.number ≡ number) × (1 ≤ head.count)) }
+{
+    head.table == table.0 && head.number == number && head.count >= 1
+}
+
+/// Whether a page is a leaf of the table that has rows, and names itself by this number.
+pub(crate) fn is_run_leaf(page: &[u8; 8192], table: Table, number: u32) -> bool
+    ensures { IsTrue result ↔ IsRunLeaf table.0 number page.now }
+{
+    if !check_row_leaf(page) {
+        return false;
+    }
+    names(page_head(page), table, number)
+}
+
+/// Where the row with a key stands in a leaf, or would stand.
+pub(crate) fn search(page: &[u8; 8192], key: &[u8]) -> Result<usize, usize>
+    requires { (leaf : RowLeaf) × (row_leaf_of page.now ≡ Some leaf) }
+    ensures { (leaf : RowLeaf) → row_leaf_of page.now ≡ Some leaf → MatchResult result (IsAt by_bytes key_of leaf.rows key.now) (IsGap by_bytes key_of leaf.rows key.now) }
+{
+    find(page, key)
+}
+
+/// The value of the row with a key; false where a leaf has no such row.
+pub(crate) fn copy_value(page: &[u8; 8192], key: &[u8], into: &mut ValueBuf) -> bool
+    requires { (leaf : RowLeaf) × (row_leaf_of page.now ≡ Some leaf) }
+    ensures { (leaf : RowLeaf) → row_leaf_of page.now ≡ Some leaf → IsRow result (find by_bytes key.now leaf.rows) into.new.items }
+{
+    let Ok(at) = search(page, key) else {
+        return false;
+    };
+    into.clear();
+    into.try_extend_from_slice(value_of(page, at)).is_ok()
+}
+
+// Whether the last key of a leaf is below a key.
+fn ends_below(page: &[u8; 8192], key: &[u8]) -> bool
+    requires { (leaf : RowLeaf) × (row_leaf_of page.now ≡ Some leaf) × (0 < length leaf.rows) }
+    ensures { (leaf : RowLeaf) → row_leaf_of page.now ≡ Some leaf → result ≡ all_below key.now leaf.rows }
+{
+    let last = key_of(page, count_of(page) - 1);
+    last.cmp(&key).is_lt()
+}
+
+// Whether a key stands in a leaf with rows or would stand there, among the leaves from it on.
+fn stands_here(page: &[u8; 8192], key: &[u8]) -> bool
+    requires { (leaf : RowLeaf) × (row_leaf_of page.now ≡ Some leaf) × (0 < length leaf.rows) }
+    ensures { (leaf : RowLeaf) → row_leaf_of page.now ≡ Some leaf → StandsHere result leaf key.now }
+{
+    if next_of(page) == 0 {
+        return true;
+    }
+    !ends_below(page, key)
+}
+
+/// What a walk for a key learns of a leaf with rows.
+pub(crate) fn see(page: &[u8; 8192], key: &[u8]) -> Sight
+    requires { (leaf : RowLeaf) × (row_leaf_of page.now ≡ Some leaf) × (0 < length leaf.rows) }
+    ensures { (leaf : RowLeaf) → row_leaf_of page.now ≡ Some leaf → Sees leaf key.now result }
+{
+    Sight {
+        is_here: stands_here(page, key),
+        next: next_of(page),
+    }
+}
+
+// Where the rows behind a key begin in a leaf.
+fn first_behind(page: &[u8; 8192], after: &[u8]) -> usize
+    requires { (leaf : RowLeaf) × (row_leaf_of page.now ≡ Some leaf) }
+    ensures { (leaf : RowLeaf) → row_leaf_of page.now ≡ Some leaf → IsCut leaf.rows after.now result }
+{
+    match search(page, after) {
+        Ok(at) => at + 1,
+        Err(at) => at,
+    }
+}
+
+// Gives the key and the value of a row.
+fn copy_row(page: &[u8; 8192], at: usize, key: &mut KeyBuf, value: &mut ValueBuf)
+    requires { (leaf : RowLeaf) × (row_leaf_of page.now ≡ Some leaf) × (at < length leaf.rows) }
+    ensures { (leaf : RowLeaf) → row_leaf_of page.now ≡ Some leaf → slice_get leaf.rows at ≡ Some (key.new.items, value.new.items) }
+{
+    // There is room for every key and every value, so both succeed.
+    key.clear();
+    let _ = key.try_extend_from_slice(key_of(page, at));
+    value.clear();
+    let _ = value.try_extend_from_slice(value_of(page, at));
+}
+
+/// Gives the first row behind a key; false where a leaf has none.
+pub(crate) fn copy_behind(
+    page: &[u8; 8192],
+    after: &[u8],
+    key: &mut KeyBuf,
+    value: &mut ValueBuf,
+) -> bool
+    requires { (leaf : RowLeaf) × (row_leaf_of page.now ≡ Some leaf) }
+    ensures { (leaf : RowLeaf) → row_leaf_of page.now ≡ Some leaf → IsBehind result leaf.rows after.now key.new.items value.new.items }
+{
+    let at = first_behind(page, after);
+    if at >= count_of(page) {
+        return false;
+    }
+    copy_row(page, at, key, value);
+    true
+}

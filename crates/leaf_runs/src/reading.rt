@@ -1,0 +1,243 @@
+//! What is read of tables.
+ghost use Rattle.std.specs.Prelude.{◌≡◌, ◌+◌, ◌-◌, ◌<◌, ◌≤◌, ℕ, List, length, IsTrue, IsSome, Some, IfOk, OnOk, slice_get};
+ghost use Rattle.mdb_model.specs.Script.{is_table, is_key};
+ghost use Rattle.std.specs.FinMap.{get, find};
+ghost use Rattle.mdb_model.specs.Space.{table_pages, table_cost};
+ghost use Rattle.mdb_bytes.specs.Held.{HasPageCause, IsRow, next_row, IsNextRow};
+ghost use Rattle.mdb_bytes.specs.TablePages.{RowLeaf};
+ghost use Rattle.leaf_runs.specs.Leaves.{by_bytes};
+ghost use Rattle.leaf_runs.specs.Runs.{Leaf, IsTableRun, AreRuns, HasEntry, HasRunLeaf, HasLeaves, HasTwoLeaves, IsSeen, IsOnward, IsScanned, IsSpot, catalogue_at, leaf_at, rows_of};
+
+use crate::leaf::{Sight, copy_behind, copy_value, is_run_leaf, see};
+use mdb_bytes::{CatalogueEntry, Pages, decode_catalogue};
+use mdb_model::bytes::{KeyBuf, ValueBuf};
+use mdb_model::fault::{Damage, Device, PageFault, Rule};
+use mdb_model::name::Table;
+use row_page::next_of;
+
+/// A broken rule. It names the logical page; on which block of a device that stands is not known
+/// here, so the device is the first data volume.
+pub(crate) fn broken(page: u32, rule: Rule) -> PageFault
+    ensures { result ≡ PageFault.Failed → ⊥ }
+{
+    PageFault::Damaged(Damage {
+        device: Device::Data(1),
+        page,
+        rule,
+    })
+}
+
+/// What the catalogue says of a table.
+pub(crate) fn read_entry<P: Pages>(pages: &mut P, table: Table) -> Result<CatalogueEntry, PageFault>
+    requires { IsTrue (is_table table.0) }
+    ensures entry { P.is_known pages.old → IfOk result (HasEntry (P.pages pages.old) table.0) }
+    ensures same { P.is_known pages.old → OnOk result (P.is_known pages.new × (P.pages pages.new ≡ P.pages pages.old)) }
+    ensures spare { P.spare pages.old ≤ P.spare pages.new }
+    ensures cause { HasPageCause (P.is_known pages.old × IsSome (catalogue_at (P.pages pages.old))) (P.faults pages.old) (P.faults pages.new) result }
+    ensures follows { P.follows pages.old pages.new }
+{
+    if !pages.lives(0) {
+        return Err(broken(0, Rule::Page));
+    }
+    let bytes = pages.read(0)?;
+    let Some(catalogue) = decode_catalogue(bytes) else {
+        return Err(broken(0, Rule::Page));
+    };
+    Ok(catalogue.entries[table.0 as usize - 1])
+}
+
+/// What a walk for a key learns of a page.
+pub(crate) fn look<P: Pages>(
+    pages: &mut P,
+    table: Table,
+    page: u32,
+    key: &[u8],
+) -> Result<Sight, PageFault>
+    ensures seen { P.is_known pages.old → IfOk result (IsSeen (P.pages pages.old) page key.now) }
+    ensures same { P.is_known pages.old → OnOk result (P.is_known pages.new × (P.pages pages.new ≡ P.pages pages.old)) }
+    ensures spare { P.spare pages.old ≤ P.spare pages.new }
+    ensures cause { HasPageCause (P.is_known pages.old × HasRunLeaf (P.pages pages.old) table.0 page) (P.faults pages.old) (P.faults pages.new) result }
+    ensures follows { P.follows pages.old pages.new }
+{
+    if !pages.lives(page) {
+        return Err(broken(page, Rule::Page));
+    }
+    let bytes = pages.read(page)?;
+    if !is_run_leaf(bytes, table, page) {
+        return Err(broken(page, Rule::Page));
+    }
+    Ok(see(bytes, key))
+}
+
+/// The page of the leaf where the row with a key stands or would stand. A chain of leaves is followed as far as
+/// the catalogue says, and no further than pages can exist.
+pub(crate) fn locate<P: Pages>(
+    pages: &mut P,
+    table: Table,
+    entry: CatalogueEntry,
+    key: &[u8],
+) -> Result<u32, PageFault>
+    ensures found { P.is_known pages.old → IfOk result (λ page. (leaves : List Leaf) → IsTableRun (P.pages pages.old) table.0 entry leaves → 0 < length leaves → IsSpot leaves key.now page) }
+    ensures same { P.is_known pages.old → OnOk result (P.is_known pages.new × (P.pages pages.new ≡ P.pages pages.old)) }
+    ensures spare { P.spare pages.old ≤ P.spare pages.new }
+    ensures cause { HasPageCause (P.is_known pages.old × HasLeaves (P.pages pages.old) table.0 entry) (P.faults pages.old) (P.faults pages.new) result }
+    ensures follows { P.follows pages.old pages.new }
+{
+    let mut page = entry.root;
+    for _ in 0..entry.pages.min(65_536) {
+        let sight = look(pages, table, page, key)?;
+        if sight.is_here {
+            return Ok(page);
+        }
+        page = sight.next;
+    }
+    Err(broken(page, Rule::Tree))
+}
+
+// The value of a row on a leaf; false where the leaf has no such row.
+fn read_value<P: Pages>(
+    pages: &mut P,
+    table: Table,
+    page: u32,
+    key: &[u8],
+    into: &mut ValueBuf,
+) -> Result<bool, PageFault>
+    ensures found { P.is_known pages.old → IfOk result (λ found. (leaf : RowLeaf) × (leaf_at (P.pages pages.old) page ≡ Some leaf) × IsRow found (find by_bytes key.now leaf.rows) into.new.items) }
+    ensures same { P.is_known pages.old → OnOk result (P.is_known pages.new × (P.pages pages.new ≡ P.pages pages.old)) }
+    ensures spare { P.spare pages.old ≤ P.spare pages.new }
+    ensures cause { HasPageCause (P.is_known pages.old × HasRunLeaf (P.pages pages.old) table.0 page) (P.faults pages.old) (P.faults pages.new) result }
+    ensures follows { P.follows pages.old pages.new }
+{
+    if !pages.lives(page) {
+        return Err(broken(page, Rule::Page));
+    }
+    let bytes = pages.read(page)?;
+    if !is_run_leaf(bytes, table, page) {
+        return Err(broken(page, Rule::Page));
+    }
+    Ok(copy_value(bytes, key, into))
+}
+
+/// The value of a row; false where there is no such row. It reads the catalogue and the leaves of
+/// the table up to the one where the key stands or would stand.
+pub fn get<P: Pages>(
+    pages: &mut P,
+    table: Table,
+    key: &[u8],
+    into: &mut ValueBuf,
+) -> Result<bool, PageFault>
+    requires { IsTrue (is_table table.0) }
+    ensures found { P.is_known pages.old → AreRuns (P.pages pages.old) → IfOk result (λ found. IsRow found (get (rows_of (P.pages pages.old)) (table.0, key.now)) into.new.items) }
+    ensures same { P.is_known pages.old → OnOk result (P.is_known pages.new × (P.pages pages.new ≡ P.pages pages.old)) }
+    ensures spare { P.spare pages.old ≤ P.spare pages.new }
+    ensures cause { HasPageCause (P.is_known pages.old × AreRuns (P.pages pages.old)) (P.faults pages.old) (P.faults pages.new) result }
+    ensures follows { P.follows pages.old pages.new }
+{
+    let entry = read_entry(pages, table)?;
+    if entry.root == 0 {
+        return Ok(false);
+    }
+    let page = locate(pages, table, entry, key)?;
+    read_value(pages, table, page, key, into)
+}
+
+/// What a scan learns of a leaf.
+#[derive(Clone, Copy, Debug)]
+pub(crate) struct Onward {
+    /// Whether the leaf has a row behind the key.
+    pub(crate) found: bool,
+    /// The page of the next leaf, 0 for none.
+    pub(crate) next: u32,
+}
+
+// Gives the first row of a leaf behind a key.
+fn read_behind<P: Pages>(
+    pages: &mut P,
+    table: Table,
+    page: u32,
+    after: &[u8],
+    key: &mut KeyBuf,
+    value: &mut ValueBuf,
+) -> Result<Onward, PageFault>
+    ensures found { P.is_known pages.old → IfOk result (λ onward. IsOnward (P.pages pages.old) page after.now onward.found onward.next key.new.items value.new.items) }
+    ensures same { P.is_known pages.old → OnOk result (P.is_known pages.new × (P.pages pages.new ≡ P.pages pages.old)) }
+    ensures spare { P.spare pages.old ≤ P.spare pages.new }
+    ensures cause { HasPageCause (P.is_known pages.old × HasRunLeaf (P.pages pages.old) table.0 page) (P.faults pages.old) (P.faults pages.new) result }
+    ensures follows { P.follows pages.old pages.new }
+{
+    if !pages.lives(page) {
+        return Err(broken(page, Rule::Page));
+    }
+    let bytes = pages.read(page)?;
+    if !is_run_leaf(bytes, table, page) {
+        return Err(broken(page, Rule::Page));
+    }
+    Ok(Onward {
+        found: copy_behind(bytes, after, key, value),
+        next: next_of(bytes),
+    })
+}
+
+// Gives the first row behind a key, which is on a leaf or is the first one of the next leaf.
+fn scan_from<P: Pages>(
+    pages: &mut P,
+    table: Table,
+    page: u32,
+    after: &[u8],
+    key: &mut KeyBuf,
+    value: &mut ValueBuf,
+) -> Result<bool, PageFault>
+    ensures found { P.is_known pages.old → IfOk result (λ found. IsScanned (P.pages pages.old) page after.now found key.new.items value.new.items) }
+    ensures same { P.is_known pages.old → OnOk result (P.is_known pages.new × (P.pages pages.new ≡ P.pages pages.old)) }
+    ensures spare { P.spare pages.old ≤ P.spare pages.new }
+    ensures cause { HasPageCause (P.is_known pages.old × HasTwoLeaves (P.pages pages.old) table.0 page) (P.faults pages.old) (P.faults pages.new) result }
+    ensures follows { P.follows pages.old pages.new }
+{
+    let here = read_behind(pages, table, page, after, key, value)?;
+    if here.found {
+        return Ok(true);
+    }
+    if here.next == 0 {
+        return Ok(false);
+    }
+    let there = read_behind(pages, table, here.next, after, key, value)?;
+    Ok(there.found)
+}
+
+/// The first row of a table whose key comes after `after`, which is empty at the start of a scan;
+/// false where there is no later row, and then `key` and `value` have anything.
+pub fn scan_next<P: Pages>(
+    pages: &mut P,
+    table: Table,
+    after: &[u8],
+    key: &mut KeyBuf,
+    value: &mut ValueBuf,
+) -> Result<bool, PageFault>
+    requires { IsTrue (is_table table.0) }
+    ensures found { P.is_known pages.old → AreRuns (P.pages pages.old) → IfOk result (λ found. IsNextRow found (next_row (rows_of (P.pages pages.old)) table.0 after.now) key.new.items value.new.items) }
+    ensures same { P.is_known pages.old → OnOk result (P.is_known pages.new × (P.pages pages.new ≡ P.pages pages.old)) }
+    ensures spare { P.spare pages.old ≤ P.spare pages.new }
+    ensures cause { HasPageCause (P.is_known pages.old × AreRuns (P.pages pages.old)) (P.faults pages.old) (P.faults pages.new) result }
+    ensures follows { P.follows pages.old pages.new }
+{
+    let entry = read_entry(pages, table)?;
+    if entry.root == 0 {
+        return Ok(false);
+    }
+    let page = locate(pages, table, entry, after)?;
+    scan_from(pages, table, page, after, key, value)
+}
+
+/// How many pages a table has. They are no more than the space rule counts for its rows.
+pub fn pages<P: Pages>(pages: &mut P, table: Table) -> Result<u32, PageFault>
+    requires { IsTrue (is_table table.0) }
+    ensures count { P.is_known pages.old → (tables : AreRuns (P.pages pages.old)) → IfOk result (λ count. count ≡ length (tables.runs table.0)) }
+    ensures bound { P.is_known pages.old → AreRuns (P.pages pages.old) → IfOk result (λ count. count ≤ table_pages (table_cost (rows_of (P.pages pages.old)) (rows_of (P.pages pages.old)) table.0)) }
+    ensures same { P.is_known pages.old → OnOk result (P.is_known pages.new × (P.pages pages.new ≡ P.pages pages.old)) }
+    ensures spare { P.spare pages.old ≤ P.spare pages.new }
+    ensures cause { HasPageCause (P.is_known pages.old × AreRuns (P.pages pages.old)) (P.faults pages.old) (P.faults pages.new) result }
+    ensures follows { P.follows pages.old pages.new }
+{
+    let entry = read_entry(pages, table)?;
+    Ok(entry.pages)
+}

@@ -1,0 +1,16 @@
+pub mod Reading
+pub mod Shown
+pub mod Tests
+pub mod Moves
+pub mod PageSteps
+pub mod Changes
+pub mod Spares
+pub mod Views
+pub mod Readying
+pub mod Follows
+pub mod Lending
+pub mod Pairs
+pub mod Settling
+pub mod Opened
+pub mod Released
+pub mod Knowing

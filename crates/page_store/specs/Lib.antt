@@ -1,0 +1,5 @@
+pub mod Store
+pub mod LogicalPages
+pub mod Steps
+pub mod StepLaws
+pub mod Opens

@@ -1,0 +1,13 @@
+//! Logical pages over blocks: a page keeps its number, and moves to a free block where its block is
+//! kept for a savepoint.
+#![tactic(auto)]
+
+mod frames;
+mod opening;
+mod owning;
+mod savepoints;
+mod store;
+mod view;
+
+pub use store::{FrameState, PageStore};
+pub use view::StoreView;
