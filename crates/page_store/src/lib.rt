@@ -3,11 +3,13 @@
 #![tactic(auto)]
 
 mod frames;
+mod laws;
 mod opening;
 mod owning;
 mod savepoints;
 mod store;
 mod view;
 
+pub use laws::last_savepoint_stays;
 pub use store::{FrameState, PageStore};
 pub use view::StoreView;

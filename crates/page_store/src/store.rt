@@ -1,5 +1,5 @@
 //! What a store keeps.
-ghost use Rattle.std.specs.Prelude.{◌≡◌, ◌+◌, ◌-◌, ◌<◌, ◌≤◌, ◌^◌, ◌↔◌, length, sum, IsTrue, if◌then◌else◌};
+ghost use Rattle.std.specs.Prelude.{◌≡◌, ◌+◌, ◌-◌, ◌<◌, ◌≤◌, ◌^◌, ◌↔◌, length, sum, IsSome, IsTrue, if◌then◌else◌};
 ghost use Rattle.free_blocks.specs.Free.{free_count};
 ghost use Rattle.converter.specs.Maps.{Maps, IsSound, block_of};
 ghost use Rattle.page_store.specs.Store.{Store, IsStore, Lives, blocks_of, page_block, own_unmarked, spare_of, is_marked, IsHeld};
@@ -134,6 +134,13 @@ impl PageStore {
         } else {
             free.saturating_sub(own)
         }
+    }
+
+    /// Whether a savepoint was begun that is not released yet.
+    pub fn is_saving(&self) -> bool
+        ensures { IsTrue result ↔ IsSome self.now.maps.frozen_at }
+    {
+        self.converter.is_frozen()
     }
 
     /// Whether a savepoint may be begun: there are free blocks for all pages of the converter.

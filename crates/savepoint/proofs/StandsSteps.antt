@@ -63,7 +63,7 @@ first_few [] n le = le
 first_few (x ∷ xs) n le = let s = sum_by-cons (λ (k : ℕ). k) x xs in omega (arith, le, s)
 
 -- writes behind the first two blocks leave the slots
-slots_stay : (sizes : List ℕ) (set : ℕ → Type 0) (a b : Image) → ((c : ℕ) → set c → 1 < c) → Writes sizes set a b → 2 ≤ get_or sizes 0 0 → KeepsSlots a b
+pub slots_stay : (sizes : List ℕ) (set : ℕ → Type 0) (a b : Image) → ((c : ℕ) → set c → 1 < c) → Writes sizes set a b → 2 ≤ get_or sizes 0 0 → KeepsSlots a b
 slots_stay sizes set a b high writes big = record {
   force = force_bytes restart_place a b same;
   ready = λ slots body at ready. ready_bytes slots body a b (subst (λ (p : SlotPlace). SamePages p a b) (sym at) same) ready;
