@@ -67,7 +67,7 @@ module _ (pages : PageBytes) (table : ℕ) (entry : CatalogueEntry) where
       by_leaves [] chain none = refl
       by_leaves (l ∷ ls) chain none = let real = chain.0.real in absurd (omega arith)
 
-    module _ (key : List ℕ) (page : ℕ) (spot : IsSpot leaves key page) where
+    module _ (key : List ℕ) (before : Option ℕ) (page : ℕ) (spot : IsSpot leaves key before page) where
       pub spot_stands : LeafStands pages table spot.here (first_page spot.back) × IsChain pages table spot.back
       spot_stands = chain_right pages table spot.front (spot.here ∷ spot.back) (subst (IsChain pages table) spot.whole run.linked)
 
@@ -117,7 +117,7 @@ not_all after (x ∷ xs) ys some high low =
     let wrong : false ≡ true = sym (ap (λ o. not (is_gt o)) more) ∙ here in
     cc
 
-module _ (pages : PageBytes) (table : ℕ) (entry : CatalogueEntry) (leaves : List Leaf) (run : IsTableRun pages table entry leaves) (after : List ℕ) (page : ℕ) (spot : IsSpot leaves after page) where
+module _ (pages : PageBytes) (table : ℕ) (entry : CatalogueEntry) (leaves : List Leaf) (run : IsTableRun pages table entry leaves) (after : List ℕ) (before : Option ℕ) (page : ℕ) (spot : IsSpot leaves after before page) where
   abbrev rf : List Row
   rf = run_rows spot.front
 
@@ -128,13 +128,13 @@ module _ (pages : PageBytes) (table : ℕ) (entry : CatalogueEntry) (leaves : Li
   front_low = from_lower after rf spot.lower
 
   parts : run_rows leaves ≡ rf ++ (spot.here.rows ++ rb)
-  parts = spot_parts pages table entry leaves run after page spot
+  parts = spot_parts pages table entry leaves run after before page spot
 
   chain : LeafStands pages table spot.here (first_page spot.back) × IsChain pages table spot.back
-  chain = spot_stands pages table entry leaves run after page spot
+  chain = spot_stands pages table entry leaves run after before page spot
 
   value : (leaf : RowLeaf) → leaf_at pages page ≡ Some leaf → leaf ≡ leaf_value table spot.here (first_page spot.back)
-  value = spot_value pages table entry leaves run after page spot
+  value = spot_value pages table entry leaves run after before page spot
 
   -- the next leaf is one of the table
   pub spot_next : (leaf : RowLeaf) → leaf_at pages page ≡ Some leaf → (leaf.next ≡ 0 → ⊥) → HasRunLeaf pages table leaf.next
@@ -210,8 +210,8 @@ first_of_all pages r table after found key value low high is = next_of_first (ro
 pub scanned_on : (pages pages2 : PageBytes) (page : ℕ) (after : List ℕ) (found : Bool) (key value : List ℕ) → pages2 ≡ pages → IsScanned pages2 page after found key value → IsScanned pages page after found key value
 scanned_on pages pages2 page after found key value same h = subst (λ (p : PageBytes). IsScanned p page after found key value) same h
 
-pub two_leaves : (pages pages2 : PageBytes) (table : ℕ) (entry : CatalogueEntry) (leaves : List Leaf) (run : IsTableRun pages table entry leaves) (after : List ℕ) (page : ℕ) (spot : IsSpot leaves after page) → pages2 ≡ pages
+pub two_leaves : (pages pages2 : PageBytes) (table : ℕ) (entry : CatalogueEntry) (leaves : List Leaf) (run : IsTableRun pages table entry leaves) (after : List ℕ) (before : Option ℕ) (page : ℕ) (spot : IsSpot leaves after before page) → pages2 ≡ pages
     → HasTwoLeaves pages2 table page
-two_leaves pages pages2 table entry leaves run after page spot same =
-    let both : HasTwoLeaves pages table page = (spot_leaf pages table entry leaves run after page spot, spot_next pages table entry leaves run after page spot) in
+two_leaves pages pages2 table entry leaves run after before page spot same =
+    let both : HasTwoLeaves pages table page = (spot_leaf pages table entry leaves run after before page spot, spot_next pages table entry leaves run after before page spot) in
     subst (λ (p : PageBytes). HasTwoLeaves p table page) (sym same) both

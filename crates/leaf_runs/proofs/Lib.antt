@@ -11,3 +11,11 @@ pub mod Scans
 pub mod PageBound
 pub mod LeafEdits
 pub mod PageSteps
+pub mod LooseRuns
+pub mod PlacedRows
+pub mod JoinedRuns
+pub mod SettledRuns
+pub mod RowCosts
+pub mod EntryWrites
+pub mod NewRuns
+pub mod Changes

@@ -29,7 +29,7 @@ use Rattle.leaf_runs.proofs.Gets.{row_there}
 
 -- Leaves
 
-rows_cost-append : (a b : List Row) → rows_cost (a ++ b) ≡ rows_cost a + rows_cost b
+pub rows_cost-append : (a b : List Row) → rows_cost (a ++ b) ≡ rows_cost a + rows_cost b
 rows_cost-append a b = sum_by-append row_cost a b
 
 -- two neighbours fill more than a page

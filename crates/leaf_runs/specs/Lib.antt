@@ -4,3 +4,8 @@ pub mod Behind
 pub mod Edits
 pub mod Runs
 pub mod Steps
+pub mod Loose
+pub mod Halves
+pub mod Tries
+pub mod Changed
+pub mod Holdings

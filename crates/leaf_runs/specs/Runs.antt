@@ -6,7 +6,7 @@
 --     AreRuns      all tables are runs, and each leaf belongs to one
 --     rows_of      the rows on all pages
 -- These say of the bytes of pages what the rules on the form of a map of pages say of pages with stamps.
-use Rattle.std.specs.Prelude.{◌≡◌, ℕ, ◌+◌, ◌-◌, ◌<◌, ◌≤◌, List, [], ◌∷◌, ◌++◌, T, Bool, true, false, ◌⊎◌, map, length, Option, Some, option_and_then, slice_get, Contains}
+use Rattle.std.specs.Prelude.{◌≡◌, ℕ, ◌+◌, ◌-◌, ◌<◌, ◌≤◌, List, [], ◌∷◌, ◌++◌, T, Bool, true, false, ◌⊎◌, map, length, Option, Some, None, option_and_then, slice_get, Contains}
 use Rattle.std.specs.List.{flat_map}
 use Rattle.std.specs.FinMap.{get, values, from_entries, is_sorted}
 use Rattle.std.specs.FinMap.Entries.{below_all}
@@ -37,6 +37,12 @@ run_rows (leaf ∷ leaves) = leaf.rows ++ run_rows leaves
 abbrev pub first_page : List Leaf → ℕ
 first_page [] = 0
 first_page (leaf ∷ leaves) = leaf.page
+
+-- the page of the last leaf, or none
+abbrev pub last_page : List Leaf → Option ℕ
+last_page [] = None
+last_page (leaf ∷ []) = Some leaf.page
+last_page (leaf ∷ next ∷ leaves) = last_page (next ∷ leaves)
 
 -- the leaf that a page spells
 abbrev pub leaf_at : PageBytes → ℕ → Option RowLeaf
@@ -122,12 +128,13 @@ HasTwoLeaves pages table number =
 abbrev pub HasLeaves : PageBytes → (table : ℕ) → CatalogueEntry → Type 0
 HasLeaves pages table entry = (leaves : List Leaf) × IsTableRun pages table entry leaves × (0 < length leaves)
 
--- the page of the leaf of a run where a key stands or would stand
-pub record IsSpot (leaves : List Leaf) (key : List ℕ) (page : ℕ) : Type 0 where
+-- the leaf of a run where a key stands or would stand, by the page of the leaf before it and by its own page
+pub record IsSpot (leaves : List Leaf) (key : List ℕ) (before : Option ℕ) (page : ℕ) : Type 0 where
   pub front : List Leaf
   pub here : Leaf
   pub back : List Leaf
   pub whole : leaves ≡ front ++ here ∷ back
+  pub before_is : before ≡ last_page front
   pub page_is : here.page ≡ page
   pub lower : all_below key (run_rows front) ≡ true
   pub higher : T (below_all by_bytes key (run_rows back))

@@ -8,6 +8,7 @@ ghost use Rattle.sorted_places.specs.Search.{IsAt, IsGap};
 ghost use Rattle.leaf_runs.specs.Sights.{StandsHere, Sees};
 ghost use Rattle.leaf_runs.specs.Behind.{IsCut, IsBehind};
 ghost use Rattle.leaf_runs.specs.Leaves.{by_bytes, key_of, all_below, IsRunLeaf};
+ghost use Rattle.leaf_runs.specs.Loose.{row_cost_of};
 
 use mdb_bytes::{PageHead, check_row_leaf, page_head};
 use mdb_model::bytes::{KeyBuf, ValueBuf};
@@ -59,6 +60,17 @@ pub(crate) fn copy_value(page: &[u8; 8192], key: &[u8], into: &mut ValueBuf) -> 
     into.try_extend_from_slice(value_of(page, at)).is_ok()
 }
 
+/// What the row with a key costs, 0 where a leaf has no such row.
+pub(crate) fn row_cost(page: &[u8; 8192], key: &[u8]) -> u64
+    requires { (leaf : RowLeaf) × (row_leaf_of page.now ≡ Some leaf) }
+    ensures { (leaf : RowLeaf) → row_leaf_of page.now ≡ Some leaf → result ≡ row_cost_of key.now leaf.rows }
+{
+    let Ok(at) = search(page, key) else {
+        return 0;
+    };
+    8 + key.len() as u64 + value_of(page, at).len() as u64
+}
+
 // Whether the last key of a leaf is below a key.
 fn ends_below(page: &[u8; 8192], key: &[u8]) -> bool
     requires { (leaf : RowLeaf) × (row_leaf_of page.now ≡ Some leaf) × (0 < length leaf.rows) }
@@ -90,8 +102,8 @@ pub(crate) fn see(page: &[u8; 8192], key: &[u8]) -> Sight
     }
 }
 
-// Where the rows behind a key begin in a leaf.
-fn first_behind(page: &[u8; 8192], after: &[u8]) -> usize
+/// Where the rows behind a key begin in a leaf.
+pub(crate) fn first_behind(page: &[u8; 8192], after: &[u8]) -> usize
     requires { (leaf : RowLeaf) × (row_leaf_of page.now ≡ Some leaf) }
     ensures { (leaf : RowLeaf) → row_leaf_of page.now ≡ Some leaf → IsCut leaf.rows after.now result }
 {

@@ -1,12 +1,17 @@
-//! Tables as lists of leaves over pages: what is read of them, and the steps of writing.
+//! Tables as lists of leaves over pages.
 #![tactic(auto)]
 
+mod catalogue;
+mod changing;
 mod editing;
 mod leaf;
 mod pairs;
+mod placing;
 mod reading;
+mod runs;
+mod settling;
 mod writing;
 
-pub use pairs::{JoinNext, SplitAt};
+pub use changing::{del, put};
 pub use reading::{get, pages, scan_next};
-pub use writing::{join_leaves, new_leaf, put_on_leaf, split_leaf, take_off_leaf};
+pub use runs::Runs;

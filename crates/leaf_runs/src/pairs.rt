@@ -12,19 +12,19 @@ use row_page::{count_of, key_of, merge, next_of, set_next, split, used_of};
 
 /// Moves the rows from a place on to a leaf without rows, which becomes the next one.
 #[derive(Clone, Copy, Debug)]
-pub struct SplitAt {
-    pub table: Table,
-    pub from: u32,
-    pub to: u32,
-    pub at: usize,
+pub(crate) struct SplitAt {
+    pub(crate) table: Table,
+    pub(crate) from: u32,
+    pub(crate) to: u32,
+    pub(crate) at: usize,
 }
 
 /// Moves the rows of the next leaf behind those of a leaf, where they go on one page.
 #[derive(Clone, Copy, Debug)]
-pub struct JoinNext {
-    pub table: Table,
-    pub first: u32,
-    pub second: u32,
+pub(crate) struct JoinNext {
+    pub(crate) table: Table,
+    pub(crate) first: u32,
+    pub(crate) second: u32,
 }
 
 fn is_named(head: PageHead, table: Table, number: u32) -> bool

@@ -1,15 +1,17 @@
 //! What is read of tables.
-ghost use Rattle.std.specs.Prelude.{◌≡◌, ◌+◌, ◌-◌, ◌<◌, ◌≤◌, ℕ, List, length, IsTrue, IsSome, Some, IfOk, OnOk, slice_get};
-ghost use Rattle.mdb_model.specs.Script.{is_table, is_key};
+ghost use Rattle.std.specs.Prelude.{◌≡◌, ◌<◌, ◌≤◌, ℕ, List, length, IsTrue, Some, IfOk, OnOk};
+ghost use Rattle.mdb_model.specs.Script.{is_table};
 ghost use Rattle.std.specs.FinMap.{get, find};
 ghost use Rattle.mdb_model.specs.Space.{table_pages, table_cost};
 ghost use Rattle.mdb_bytes.specs.Held.{HasPageCause, IsRow, next_row, IsNextRow};
 ghost use Rattle.mdb_bytes.specs.TablePages.{RowLeaf};
 ghost use Rattle.leaf_runs.specs.Leaves.{by_bytes};
-ghost use Rattle.leaf_runs.specs.Runs.{Leaf, IsTableRun, AreRuns, HasEntry, HasRunLeaf, HasLeaves, HasTwoLeaves, IsSeen, IsOnward, IsScanned, IsSpot, catalogue_at, leaf_at, rows_of};
+ghost use Rattle.leaf_runs.specs.Runs.{Leaf, IsTableRun, AreRuns, HasRunLeaf, HasLeaves, HasTwoLeaves, IsSeen, IsOnward, IsScanned, IsSpot, leaf_at, rows_of};
+ghost use Rattle.leaf_runs.specs.Loose.{row_cost_of};
 
-use crate::leaf::{Sight, copy_behind, copy_value, is_run_leaf, see};
-use mdb_bytes::{CatalogueEntry, Pages, decode_catalogue};
+use crate::catalogue::read_entry;
+use crate::leaf::{Sight, copy_behind, copy_value, is_run_leaf, row_cost, see};
+use mdb_bytes::{CatalogueEntry, Pages};
 use mdb_model::bytes::{KeyBuf, ValueBuf};
 use mdb_model::fault::{Damage, Device, PageFault, Rule};
 use mdb_model::name::Table;
@@ -25,25 +27,6 @@ pub(crate) fn broken(page: u32, rule: Rule) -> PageFault
         page,
         rule,
     })
-}
-
-/// What the catalogue says of a table.
-pub(crate) fn read_entry<P: Pages>(pages: &mut P, table: Table) -> Result<CatalogueEntry, PageFault>
-    requires { IsTrue (is_table table.0) }
-    ensures entry { P.is_known pages.old → IfOk result (HasEntry (P.pages pages.old) table.0) }
-    ensures same { P.is_known pages.old → OnOk result (P.is_known pages.new × (P.pages pages.new ≡ P.pages pages.old)) }
-    ensures spare { P.spare pages.old ≤ P.spare pages.new }
-    ensures cause { HasPageCause (P.is_known pages.old × IsSome (catalogue_at (P.pages pages.old))) (P.faults pages.old) (P.faults pages.new) result }
-    ensures follows { P.follows pages.old pages.new }
-{
-    if !pages.lives(0) {
-        return Err(broken(0, Rule::Page));
-    }
-    let bytes = pages.read(0)?;
-    let Some(catalogue) = decode_catalogue(bytes) else {
-        return Err(broken(0, Rule::Page));
-    };
-    Ok(catalogue.entries[table.0 as usize - 1])
 }
 
 /// What a walk for a key learns of a page.
@@ -69,26 +52,37 @@ pub(crate) fn look<P: Pages>(
     Ok(see(bytes, key))
 }
 
-/// The page of the leaf where the row with a key stands or would stand. A chain of leaves is followed as far as
+/// The leaf of a run where a key stands or would stand.
+#[derive(Clone, Copy, Debug)]
+pub(crate) struct Spot {
+    /// The page of the leaf before, none at the first one.
+    pub(crate) before: Option<u32>,
+    /// The page of the leaf.
+    pub(crate) page: u32,
+}
+
+/// The leaf where the row with a key stands or would stand. A chain of leaves is followed as far as
 /// the catalogue says, and no further than pages can exist.
 pub(crate) fn locate<P: Pages>(
     pages: &mut P,
     table: Table,
     entry: CatalogueEntry,
     key: &[u8],
-) -> Result<u32, PageFault>
-    ensures found { P.is_known pages.old → IfOk result (λ page. (leaves : List Leaf) → IsTableRun (P.pages pages.old) table.0 entry leaves → 0 < length leaves → IsSpot leaves key.now page) }
+) -> Result<Spot, PageFault>
+    ensures found { P.is_known pages.old → IfOk result (λ spot. (leaves : List Leaf) → IsTableRun (P.pages pages.old) table.0 entry leaves → 0 < length leaves → IsSpot leaves key.now spot.before spot.page) }
     ensures same { P.is_known pages.old → OnOk result (P.is_known pages.new × (P.pages pages.new ≡ P.pages pages.old)) }
     ensures spare { P.spare pages.old ≤ P.spare pages.new }
     ensures cause { HasPageCause (P.is_known pages.old × HasLeaves (P.pages pages.old) table.0 entry) (P.faults pages.old) (P.faults pages.new) result }
     ensures follows { P.follows pages.old pages.new }
 {
+    let mut before = None;
     let mut page = entry.root;
     for _ in 0..entry.pages.min(65_536) {
         let sight = look(pages, table, page, key)?;
         if sight.is_here {
-            return Ok(page);
+            return Ok(Spot { before, page });
         }
+        before = Some(page);
         page = sight.next;
     }
     Err(broken(page, Rule::Tree))
@@ -118,6 +112,29 @@ fn read_value<P: Pages>(
     Ok(copy_value(bytes, key, into))
 }
 
+/// What the row with a key costs on a leaf, 0 where the leaf has no such row.
+pub(crate) fn row_cost_at<P: Pages>(
+    pages: &mut P,
+    table: Table,
+    page: u32,
+    key: &[u8],
+) -> Result<u64, PageFault>
+    ensures cost { P.is_known pages.old → IfOk result (λ cost. (leaf : RowLeaf) × (leaf_at (P.pages pages.old) page ≡ Some leaf) × (cost ≡ row_cost_of key.now leaf.rows)) }
+    ensures same { P.is_known pages.old → OnOk result (P.is_known pages.new × (P.pages pages.new ≡ P.pages pages.old)) }
+    ensures spare { P.spare pages.old ≤ P.spare pages.new }
+    ensures cause { HasPageCause (P.is_known pages.old × HasRunLeaf (P.pages pages.old) table.0 page) (P.faults pages.old) (P.faults pages.new) result }
+    ensures follows { P.follows pages.old pages.new }
+{
+    if !pages.lives(page) {
+        return Err(broken(page, Rule::Page));
+    }
+    let bytes = pages.read(page)?;
+    if !is_run_leaf(bytes, table, page) {
+        return Err(broken(page, Rule::Page));
+    }
+    Ok(row_cost(bytes, key))
+}
+
 /// The value of a row; false where there is no such row. It reads the catalogue and the leaves of
 /// the table up to the one where the key stands or would stand.
 pub fn get<P: Pages>(
@@ -137,8 +154,8 @@ pub fn get<P: Pages>(
     if entry.root == 0 {
         return Ok(false);
     }
-    let page = locate(pages, table, entry, key)?;
-    read_value(pages, table, page, key, into)
+    let spot = locate(pages, table, entry, key)?;
+    read_value(pages, table, spot.page, key, into)
 }
 
 /// What a scan learns of a leaf.
@@ -224,8 +241,8 @@ pub fn scan_next<P: Pages>(
     if entry.root == 0 {
         return Ok(false);
     }
-    let page = locate(pages, table, entry, after)?;
-    scan_from(pages, table, page, after, key, value)
+    let spot = locate(pages, table, entry, after)?;
+    scan_from(pages, table, spot.page, after, key, value)
 }
 
 /// How many pages a table has. They are no more than the space rule counts for its rows.

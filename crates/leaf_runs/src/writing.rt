@@ -21,7 +21,7 @@ use row_page::start;
 
 /// Puts a row into a leaf; false where it has no room there, and then the leaf has no row with the
 /// key.
-pub fn put_on_leaf<P: Pages>(
+pub(crate) fn put_on_leaf<P: Pages>(
     pages: &mut P,
     table: Table,
     page: u32,
@@ -48,7 +48,7 @@ pub fn put_on_leaf<P: Pages>(
 }
 
 /// Takes the row with a key out of a leaf; false where the leaf has no such row.
-pub fn take_off_leaf<P: Pages>(
+pub(crate) fn take_off_leaf<P: Pages>(
     pages: &mut P,
     table: Table,
     page: u32,
@@ -74,7 +74,7 @@ pub fn take_off_leaf<P: Pages>(
 }
 
 /// A new leaf of a table, without rows.
-pub fn new_leaf<P: Pages>(pages: &mut P, table: Table) -> Result<u32, PageFault>
+pub(crate) fn new_leaf<P: Pages>(pages: &mut P, table: Table) -> Result<u32, PageFault>
     requires table { IsTrue (is_table table.0) }
     requires room { 2 ≤ P.spare pages.old }
     ensures made { P.is_known pages.old → IfOk result (λ page. IsNewLeaf (P.pages pages.old) (P.pages pages.new) table.0 page) }
@@ -90,7 +90,7 @@ pub fn new_leaf<P: Pages>(pages: &mut P, table: Table) -> Result<u32, PageFault>
 }
 
 /// Moves the rows of a leaf from a place on to a leaf without rows, which becomes the next one.
-pub fn split_leaf<P: Pages>(pages: &mut P, edit: &SplitAt) -> Result<(), PageFault>
+pub(crate) fn split_leaf<P: Pages>(pages: &mut P, edit: &SplitAt) -> Result<(), PageFault>
     requires differ { edit.now.from ≢ edit.now.to }
     requires room { 2 ≤ P.spare pages.old }
     ensures split { P.is_known pages.old → (leaf blank : RowLeaf) → IsNamedAt (P.pages pages.old) edit.now.table.0 edit.now.from leaf → IsNamedAt (P.pages pages.old) edit.now.table.0 edit.now.to blank
@@ -113,7 +113,7 @@ pub fn split_leaf<P: Pages>(pages: &mut P, edit: &SplitAt) -> Result<(), PageFau
 }
 
 /// Moves the rows of the next leaf behind those of a leaf, and takes its page away.
-pub fn join_leaves<P: Pages>(pages: &mut P, edit: &JoinNext) -> Result<(), PageFault>
+pub(crate) fn join_leaves<P: Pages>(pages: &mut P, edit: &JoinNext) -> Result<(), PageFault>
     requires differ { edit.now.first ≢ edit.now.second }
     requires room { 2 ≤ P.spare pages.old }
     ensures joined { P.is_known pages.old → (leaf next : RowLeaf) → IsNamedAt (P.pages pages.old) edit.now.table.0 edit.now.first leaf → IsNamedAt (P.pages pages.old) edit.now.table.0 edit.now.second next

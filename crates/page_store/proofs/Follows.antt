@@ -18,7 +18,7 @@ use Rattle.page_store.specs.Steps.{KeepsMaps, MayWrite, Keeps, OnePage, GivesUp,
 use Rattle.page_store.proofs.Moves.{here, not_used, is_below, gone_here, not_free}
 use Rattle.page_store.proofs.PageSteps.{bare_page, given_page, moved_page, held_back}
 use Rattle.page_store.proofs.Spares.{some_free}
-use Rattle.page_store.proofs.Tests.{not_true, held_true, held_some}
+use Rattle.page_store.proofs.Answering.{not_true, held_true, held_some}
 use Rattle.page_store.proofs.Views.{price_held}
 
 -- no device was written

@@ -1,6 +1,6 @@
 pub mod Reading
 pub mod Shown
-pub mod Tests
+pub mod Answering
 pub mod Moves
 pub mod PageSteps
 pub mod Changes
@@ -14,3 +14,4 @@ pub mod Settling
 pub mod Opened
 pub mod Released
 pub mod Knowing
+pub mod Pinned

@@ -83,6 +83,7 @@ module _ (s : Store) (page b : ℕ) (bytes : List ℕ) (sound : IsSound s.maps) 
   moved_store = record {
     area = omega (arith, length-set s.free b false, length-set s.maps.owner b place, store.area);
     marks_long = omega (arith, length-set s.maps.owner b place, store.marks_long);
+    sixteen = store.sixteen;
     frames_long = omega (arith, length-set s.frames b (Some bytes), length-set s.maps.owner b place, store.frames_long);
     changed_long = omega (arith, length-set s.changed b true, length-set s.maps.owner b place, store.changed_long);
     blocks = omega (arith, length-set s.maps.owner b place, store.blocks);
@@ -113,6 +114,7 @@ pub newer_store : (s : Store) (page b : ℕ) (bytes : List ℕ) → IsSound s.ma
 newer_store s page b bytes sound store some is owned there = record {
   area = store.area;
   marks_long = store.marks_long;
+  sixteen = store.sixteen;
   frames_long = store.frames_long;
   changed_long = length-set s.changed b true ∙ store.changed_long;
   blocks = store.blocks;
@@ -179,6 +181,7 @@ module _ (s : Store) (page : ℕ) (sound : IsSound s.maps) (store : IsStore s) (
   bare_store held = record {
     area = store.area;
     marks_long = store.marks_long;
+    sixteen = store.sixteen;
     frames_long = store.frames_long;
     changed_long = store.changed_long;
     blocks = store.blocks;
@@ -242,6 +245,7 @@ module _ (s : Store) (page : ℕ) (sound : IsSound s.maps) (store : IsStore s) (
     given_store = record {
       area = length-set s.free b true ∙ store.area;
       marks_long = store.marks_long;
+      sixteen = store.sixteen;
       frames_long = length-set s.frames b None ∙ store.frames_long;
       changed_long = length-set s.changed b false ∙ store.changed_long;
       blocks = store.blocks;

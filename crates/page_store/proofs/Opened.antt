@@ -11,7 +11,7 @@ use Rattle.converter.specs.Maps.{Maps, block_of, IsSound, empty_maps}
 use Rattle.converter.proofs.Sound.{none_there}
 use Rattle.page_store.specs.declared.store.FrameState.{FrameState}
 use Rattle.page_store.specs.declared.store.FrameState.TheVariants.{Absent}
-use Rattle.page_store.specs.Store.{Store, IsStore, IsKeptStore, IsKnown, store_of, shown_frames, is_changed, has_changed}
+use Rattle.page_store.specs.Store.{Store, AreSixteen, IsStore, IsKeptStore, IsKnown, store_of, shown_frames, is_changed, has_changed}
 use Rattle.mdb_model.specs.declared.fault.Damage.{Damage}
 use Rattle.mdb_model.specs.declared.fault.PageFault.{PageFault}
 use Rattle.mdb_model.specs.declared.fault.PageFault.TheVariants.{Failed as PageFailed, Damaged as PageDamaged}
@@ -65,6 +65,10 @@ module _ (m : Maps) (n savepoint : ℕ) (flags : List Bool) (marks : List (List 
   unmarked : (b : ℕ) → IsMarked marks b → ⊥
   unmarked b is = none_marked n b (subst (λ (l : List (List Bool)). IsMarked l b) none is)
 
+  sixteen : AreSixteen marks
+  sixteen = subst (λ (l : List (List Bool)). AreSixteen l) (sym none)
+      (λ b lt. ap (λ (row : List Bool). length row) (get_or-replicate n b (replicate 16 false) [] (omega (arith, lt, length-replicate n (replicate 16 false)))) ∙ length-replicate 16 false)
+
   frames_are : shown_frames states frames ≡ replicate n None
   frames_are = ap (λ (l : List FrameState). shown_frames l frames) absent ∙ shown_absent n frames long
 
@@ -72,6 +76,7 @@ module _ (m : Maps) (n savepoint : ℕ) (flags : List Bool) (marks : List (List 
   opened_store = record {
     area = freed.long ∙ sym area;
     marks_long = ap (λ (l : List (List Bool)). length l) none ∙ length-replicate n (replicate 16 false) ∙ sym area;
+    sixteen = sixteen;
     frames_long = length_shown states frames (long ∙ sym states_long) ∙ states_long ∙ sym area;
     changed_long = length-map states is_changed ∙ states_long ∙ sym area;
     blocks = blocks ∙ sym area;

@@ -20,7 +20,7 @@ use Rattle.page_store.specs.declared.store.FrameState.{FrameState}
 use Rattle.page_store.specs.Store.{Store, IsStore, IsKeptStore, IsKnown, PinMarks, store_of, blocks_of, frozen_block, frame_of, has_changed, bytes_of}
 use Rattle.page_store.specs.LogicalPages.{has_block}
 use Rattle.page_store.specs.Steps.{OwnAsSaved, is_unwritten, HasPages}
-use Rattle.page_store.proofs.Tests.{not_true, block_true, block_some}
+use Rattle.page_store.proofs.Answering.{not_true, block_true, block_some}
 
 some_none : {A : Type 0} {x : A} → Some x ≡ None → ⊥
 some_none is = cc
@@ -107,6 +107,7 @@ module _ (s : Store) (m : Maps) (f : List Bool) (n k : ℕ) (sound : IsSound s.m
   own_store = record {
     area = omega (arith, fewer.long, own.area, store.area);
     marks_long = omega (arith, own.area, store.marks_long);
+    sixteen = store.sixteen;
     frames_long = omega (arith, own.area, store.frames_long);
     changed_long = omega (arith, own.area, store.changed_long);
     blocks = omega (arith, own.area, store.blocks);
@@ -190,6 +191,7 @@ module _ (s : Store) (f : List Bool) (n : ℕ) (sound : IsSound s.maps) (store :
   settled_store = record {
     area = given.long ∙ store.area;
     marks_long = store.marks_long;
+    sixteen = store.sixteen;
     frames_long = store.frames_long;
     changed_long = store.changed_long;
     blocks = store.blocks;

@@ -26,6 +26,7 @@ pub frozen_store : (s : Store) → IsSound s.maps → s.maps.frozen_at ≡ None 
 frozen_store s sound none small store = record {
   area = store.area;
   marks_long = store.marks_long;
+  sixteen = store.sixteen;
   frames_long = store.frames_long;
   changed_long = store.changed_long;
   blocks = store.blocks;
@@ -81,6 +82,7 @@ pub quiet_store : (s : Store) (b : ℕ) → IsStore s → IsStore (quiet_at s b)
 quiet_store s b store = record {
   area = store.area;
   marks_long = store.marks_long;
+  sixteen = store.sixteen;
   frames_long = store.frames_long;
   changed_long = length-set s.changed b false ∙ store.changed_long;
   blocks = store.blocks;

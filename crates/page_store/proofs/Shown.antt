@@ -74,6 +74,7 @@ pub set_frame_store : (s : Store) (b : ℕ) (frame : Option (List ℕ)) → IsSt
 set_frame_store s b frame store there = record {
   area = store.area;
   marks_long = store.marks_long;
+  sixteen = store.sixteen;
   frames_long = length-set s.frames b frame ∙ store.frames_long;
   changed_long = store.changed_long;
   blocks = store.blocks;

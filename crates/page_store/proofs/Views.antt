@@ -18,7 +18,7 @@ use Rattle.converter.specs.Maps.{no_entry, IsSound}
 use Rattle.page_store.specs.Store.{Store, blocks_of, page_block, bytes_of, IsHeld, IsKnown, spare_of}
 use Rattle.page_store.specs.LogicalPages.{pages_below, pages_of, lives_in, is_held, is_owned, numbers_below, paid_pages}
 use Rattle.page_store.specs.Steps.{OnePage}
-use Rattle.page_store.proofs.Tests.{held_true, held_some, not_true}
+use Rattle.page_store.proofs.Answering.{held_true, held_some, not_true}
 use Rattle.page_store.proofs.PageSteps.{held_back}
 use Rattle.page_store.proofs.Spares.{spare_less, some_free}
 

@@ -3,3 +3,4 @@ pub mod LogicalPages
 pub mod Steps
 pub mod StepLaws
 pub mod Opens
+pub mod Pins

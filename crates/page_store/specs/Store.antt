@@ -4,6 +4,7 @@
 --     page_block, Lives      the block of a page in the present map
 --     bytes_of      what stands on a block, in its frame or on the device
 --     IsHeld      a kept map has a block, or it has a mark
+--     AreSixteen      each block has sixteen tests
 --     IsPinned      the pinned map is the one whose blocks have mark 0
 --     IsStore, IsKeptStore      what holds of a store at any time
 --     Reads, IsKnown      the frames agree with the devices
@@ -103,13 +104,17 @@ bytes_of s seen b = unwrap_or (frame_of s b) (block_at s.sizes seen b)
 abbrev pub IsHeld : Store → ℕ → Type 0
 IsHeld s b = IsKept s.maps b ⊎ IsMarked s.marks b
 
+-- each block has sixteen tests
+abbrev pub AreSixteen : List (List Bool) → Type 0
+AreSixteen marks = (b : ℕ) → b < length marks → length (get_or marks b []) ≡ 16
+
 -- mark 0 is on the blocks of this map alone, no other mark is used, and each block of the map has one place
 pub record IsPinned (conv blocks : ℕ) (marks : List (List Bool)) (m : List ConverterEntry) : Type 0 where
   pub long : length m ≡ conv + blocks
   pub below : (q : ℕ) → block_of m q < blocks
   pub high : (q : ℕ) → 0 < block_of m q → 1 < block_of m q
   pub marked : (q : ℕ) → 0 < block_of m q → HasMark marks (block_of m q) 0
-  pub only : (b i : ℕ) → HasMark marks b i → (i ≡ 0) × ((q : ℕ) × (block_of m q ≡ b))
+  pub only : (b i : ℕ) → HasMark marks b i → (i ≡ 0) × (0 < b) × ((q : ℕ) × (block_of m q ≡ b))
   pub apart : (p q : ℕ) → 0 < block_of m p → block_of m p ≡ block_of m q → p ≡ q
 
 -- the pinned map is the one whose blocks have a mark
@@ -122,6 +127,7 @@ PinMarks conv blocks marks (Some m) = IsPinned conv blocks marks m
 pub record IsStore (s : Store) : Type 0 where
   pub area : length s.free ≡ blocks_of s
   pub marks_long : length s.marks ≡ blocks_of s
+  pub sixteen : AreSixteen s.marks
   pub frames_long : length s.frames ≡ blocks_of s
   pub changed_long : length s.changed ≡ blocks_of s
   pub blocks : sum s.sizes ≡ blocks_of s

@@ -43,7 +43,7 @@ fn place_there<H: Host>(volumes: &Volumes, host: &H, b: u32) -> Result<(Device, 
 }
 
 // Reads a block whose volume may be absent or too short. After an error `into` may hold any bytes.
-fn read_there<H: Host>(
+pub(crate) fn read_there<H: Host>(
     volumes: &Volumes,
     host: &mut H,
     b: u32,

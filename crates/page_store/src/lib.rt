@@ -6,10 +6,14 @@ mod frames;
 mod laws;
 mod opening;
 mod owning;
+mod pins;
 mod savepoints;
 mod store;
+#[cfg(test)]
+mod tests;
 mod view;
 
-pub use laws::last_savepoint_stays;
+pub use laws::{last_savepoint_stays, pinned_pages_stay};
+pub use pins::Pin;
 pub use store::{FrameState, PageStore};
 pub use view::StoreView;

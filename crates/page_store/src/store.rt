@@ -143,6 +143,13 @@ impl PageStore {
         self.converter.is_frozen()
     }
 
+    /// Whether a map is pinned.
+    pub fn is_pinned(&self) -> bool
+        ensures { IsTrue result ↔ IsSome self.now.pinned }
+    {
+        self.is_pinned
+    }
+
     /// Whether a savepoint may be begun: there are free blocks for all pages of the converter.
     pub fn savepoint_fits(&self) -> bool
         ensures { IsTrue result ↔ (self.now.maps.conv ≤ free_count self.now.free) }

@@ -20,13 +20,13 @@ returns-clause-found g c = λ known r.
     let t = table_limits c.args.table.0 c.requires in
     let run = table_run m c.args.table.0 c.in_ok-entry.entry r t.0 t.1 (c.in_ok-entry.ensures.entry known) in
     let one = c.in_ok-entry.ensures.same known in
-    let two = c.in_ok-page.ensures.same one.0 in
+    let two = c.in_ok-spot.ensures.same one.0 in
     let some = has_leaves m c.args.table.0 c.in_ok-entry.entry (r.runs c.args.table.0) run c.if-entry-eq0.false in
-    let spot = c.in_ok-page.ensures.found one.0 (r.runs c.args.table.0) (run_on m _ c.args.table.0 c.in_ok-entry.entry (r.runs c.args.table.0) one.1 run) some in
+    let spot = c.in_ok-spot.ensures.found one.0 (r.runs c.args.table.0) (run_on m _ c.args.table.0 c.in_ok-entry.entry (r.runs c.args.table.0) one.1 run) some in
     if_ok _ _ c.read_value.result
     (λ found h. row_as found _ _ _
-    (spot_row m c.args.table.0 c.in_ok-entry.entry (r.runs c.args.table.0) run c.args.key.now c.in_ok-page.page spot h.0
-    (subst (λ (p : PageBytes). leaf_at p c.in_ok-page.page ≡ Some h.0) (two.1 ∙ one.1) h.1)
+    (spot_row m c.args.table.0 c.in_ok-entry.entry (r.runs c.args.table.0) run c.args.key.now c.in_ok-spot.spot.before c.in_ok-spot.spot.page spot h.0
+    (subst (λ (p : PageBytes). leaf_at p c.in_ok-spot.spot.page ≡ Some h.0) (two.1 ∙ one.1) h.1)
     ∙ sym (row_there m r c.args.table.0 c.args.key.now t.0 t.1)) h.2)
     (c.read_value.ensures.found two.0)
 
@@ -40,10 +40,10 @@ returns-clause-cause g c =
     let t = table_limits c.args.table.0 c.requires in
     let run = table_run m c.args.table.0 c.in_ok-entry.entry r t.0 t.1 (c.in_ok-entry.ensures.entry k.0) in
     let one = c.in_ok-entry.ensures.same k.0 in
-    let two = c.in_ok-page.ensures.same one.0 in
+    let two = c.in_ok-spot.ensures.same one.0 in
     let some = has_leaves m c.args.table.0 c.in_ok-entry.entry (r.runs c.args.table.0) run c.if-entry-eq0.false in
-    let spot = c.in_ok-page.ensures.found one.0 (r.runs c.args.table.0) (run_on m _ c.args.table.0 c.in_ok-entry.entry (r.runs c.args.table.0) one.1 run) some in
-    (two.0, leaf_on_same m _ c.args.table.0 c.in_ok-page.page (two.1 ∙ one.1) (spot_leaf m c.args.table.0 c.in_ok-entry.entry (r.runs c.args.table.0) run c.args.key.now c.in_ok-page.page spot)))
+    let spot = c.in_ok-spot.ensures.found one.0 (r.runs c.args.table.0) (run_on m _ c.args.table.0 c.in_ok-entry.entry (r.runs c.args.table.0) one.1 run) some in
+    (two.0, leaf_on_same m _ c.args.table.0 c.in_ok-spot.spot.page (two.1 ∙ one.1) (spot_leaf m c.args.table.0 c.in_ok-entry.entry (r.runs c.args.table.0) run c.args.key.now c.in_ok-spot.spot.before c.in_ok-spot.spot.page spot)))
 
 pub returns-clause-follows : goal.returns-clause-follows
 returns-clause-follows g c =

@@ -18,13 +18,13 @@ returns-clause-found g c = λ known r.
     let t = table_limits c.args.table.0 c.requires in
     let run = table_run m c.args.table.0 c.in_ok-entry.entry r t.0 t.1 (c.in_ok-entry.ensures.entry known) in
     let one = c.in_ok-entry.ensures.same known in
-    let two = c.in_ok-page.ensures.same one.0 in
+    let two = c.in_ok-spot.ensures.same one.0 in
     let some = has_leaves m c.args.table.0 c.in_ok-entry.entry (r.runs c.args.table.0) run c.if-entry-eq0.false in
-    let spot = c.in_ok-page.ensures.found one.0 (r.runs c.args.table.0) (run_on m _ c.args.table.0 c.in_ok-entry.entry (r.runs c.args.table.0) one.1 run) some in
+    let spot = c.in_ok-spot.ensures.found one.0 (r.runs c.args.table.0) (run_on m _ c.args.table.0 c.in_ok-entry.entry (r.runs c.args.table.0) one.1 run) some in
     if_ok _ _ c.scan_from.result
     (λ found h. first_of_all m r c.args.table.0 c.args.after.now found _ _ t.0 t.1
-    (scan_first m c.args.table.0 c.in_ok-entry.entry (r.runs c.args.table.0) run c.args.after.now c.in_ok-page.page spot found _ _
-    (scanned_on m _ c.in_ok-page.page c.args.after.now found _ _ (two.1 ∙ one.1) h)))
+    (scan_first m c.args.table.0 c.in_ok-entry.entry (r.runs c.args.table.0) run c.args.after.now c.in_ok-spot.spot.before c.in_ok-spot.spot.page spot found _ _
+    (scanned_on m _ c.in_ok-spot.spot.page c.args.after.now found _ _ (two.1 ∙ one.1) h)))
     (c.scan_from.ensures.found two.0)
 
 pub returns-clause-cause : goal.returns-clause-cause
@@ -37,10 +37,10 @@ returns-clause-cause g c =
     let t = table_limits c.args.table.0 c.requires in
     let run = table_run m c.args.table.0 c.in_ok-entry.entry r t.0 t.1 (c.in_ok-entry.ensures.entry k.0) in
     let one = c.in_ok-entry.ensures.same k.0 in
-    let two = c.in_ok-page.ensures.same one.0 in
+    let two = c.in_ok-spot.ensures.same one.0 in
     let some = has_leaves m c.args.table.0 c.in_ok-entry.entry (r.runs c.args.table.0) run c.if-entry-eq0.false in
-    let spot = c.in_ok-page.ensures.found one.0 (r.runs c.args.table.0) (run_on m _ c.args.table.0 c.in_ok-entry.entry (r.runs c.args.table.0) one.1 run) some in
-    (two.0, two_leaves m _ c.args.table.0 c.in_ok-entry.entry (r.runs c.args.table.0) run c.args.after.now c.in_ok-page.page spot (two.1 ∙ one.1)))
+    let spot = c.in_ok-spot.ensures.found one.0 (r.runs c.args.table.0) (run_on m _ c.args.table.0 c.in_ok-entry.entry (r.runs c.args.table.0) one.1 run) some in
+    (two.0, two_leaves m _ c.args.table.0 c.in_ok-entry.entry (r.runs c.args.table.0) run c.args.after.now c.in_ok-spot.spot.before c.in_ok-spot.spot.page spot (two.1 ∙ one.1)))
 
 pub returns-clause-follows : goal.returns-clause-follows
 returns-clause-follows g c =

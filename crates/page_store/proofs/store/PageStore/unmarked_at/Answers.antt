@@ -3,7 +3,7 @@ use Rattle.std.specs.Prelude.{if◌then◌else◌}
 use Rattle.mdb_bytes.specs.declared.converter_pages.ConverterEntry.{ConverterEntry}
 use Rattle.converter.specs.Maps.{block_of}
 use Rattle.page_store.specs.Store.{Store, is_marked}
-use Rattle.page_store.proofs.Tests.{unmarked_false}
+use Rattle.page_store.proofs.Answering.{unmarked_false}
 use Rattle.page_store.proofs.store.PageStore.unmarked_at.Goals as goal
 
 pub returns-else-marked : goal.returns-else-marked

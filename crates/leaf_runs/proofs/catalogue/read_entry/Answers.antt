@@ -3,7 +3,7 @@ use Rattle.std.specs.Prelude.{nat_le}
 use Rattle.std.proofs.lemmas.Bool.{leb-true}
 use Rattle.mdb_bytes.proofs.Decoding.{and_left, and_right}
 use Rattle.leaf_runs.proofs.Places.{catalogue_there, no_catalogue, catalogue_len, got_at}
-use Rattle.leaf_runs.proofs.reading.read_entry.Goals as goal
+use Rattle.leaf_runs.proofs.catalogue.read_entry.Goals as goal
 
 pub returns-in_default-clause-cause : goal.returns-in_default-clause-cause
 returns-in_default-clause-cause g c = record {

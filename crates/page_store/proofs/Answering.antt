@@ -1,4 +1,4 @@
--- Tests and what they say.
+-- What tests of blocks say.
 use Rattle.std.proofs.Common.{◌≡◌, ◌⊎◌, inl, inr, ℕ, suc, ◌<◌, List, [], ◌∷◌, length, get_or, Bool, true, false, ◌==◌, ◌||◌, refl, ap, sym, subst, ◌∙◌, arith, eq-eqb, eqb→eq, T}
 use Rattle.std.specs.Prelude.{IsTrue}
 use Rattle.std.specs.List.{list_any}
