@@ -1,4 +1,4 @@
--- What is given free.
+-- What is freed.
 use Rattle.std.proofs.Common.{◌≡◌, ◌⊎◌, inl, inr, ℕ, ◌+◌, ◌-◌, ◌<◌, ◌≤◌, List, length, set, Bool, true, false, refl, ap, sym, subst, ◌∙◌, arith, length-set}
 use Rattle.std.proofs.lemmas.Bool.{cases_eq, cases_lt}
 use Rattle.std.proofs.lemmas.List.{get_or-set_same, get_or-set_other, get_or_past}
@@ -98,7 +98,7 @@ module _ (present saved frozen : List ConverterEntry) (marks : List (List Bool))
     | inr (k, le, less, leaves) ↦ omega (arith, less, after, apart q k some (sym leaves.is))
   ]
 
-  -- a loop that stopped at the end of the map, or where it was told to
+  -- a loop that stopped at the end of the map, or where it had to
   pub given_all : (end stop : ℕ) → at ≤ end → stop ≤ end → (stop < end → length saved ≤ stop) → stop ≤ n → (at ≤ stop → n ≤ stop) → Given (LeavesIn present saved frozen marks) at end old mid
   given_all end stop le few far past upto = given_end (LeavesIn present saved frozen marks) at n end old mid (λ k x low leaves.
       let there : k < length saved = inside k x leaves in
@@ -119,7 +119,7 @@ module _ (present saved frozen : List ConverterEntry) (marks : List (List Bool))
         ]
       ]
 
--- a leaf that is not behind has nothing that leaves
+-- a leaf that is not after has nothing that leaves
 pub leaf_still : (present saved frozen : List ConverterEntry) (marks : List (List Bool)) (at : ℕ) (flags : List Bool) → ((k : ℕ) → k < 600 → entry_at saved (at + k) ≡ entry_at present (at + k))
     → Given (LeavesIn present saved frozen marks) at (at + 600) flags flags
 leaf_still present saved frozen marks at flags same = given_still (LeavesIn present saved frozen marks) at (at + 600) flags (λ k x le lt leaves.

@@ -1,6 +1,6 @@
 -- Reading a map, page by page.
 use Rattle.std.proofs.Common.{◌≡◌, ◌≢◌, ◌⊎◌, inl, inr, ℕ, zero, suc, ◌+◌, ◌-◌, ◌*◌, ◌/◌, ◌<◌, ◌≤◌, ◌^◌, List, [], ◌∷◌, length, get_or, set, replicate, Bool, true, false, Result, Ok, Err, refl, ap, sym, subst, ◌∙◌, arith, length-set}
-use Rattle.std.specs.Prelude.{IsTrue, ◌&&◌, ◌||◌, ◌==◌, nat_lt, IfErr}
+use Rattle.std.specs.Prelude.{IsTrue, ◌&&◌, ◌||◌, ◌==◌, nat_lt, IfErr, IsErrAnd}
 use Rattle.std.specs.List.{list_all}
 use Rattle.std.proofs.lemmas.Bool.{cases_eq, cases_lt, ltb-true, false≢true, eqb-true}
 use Rattle.std.proofs.lemmas.List.{get_or_past, get_or-set_same, get_or-set_other, length-replicate}
@@ -162,15 +162,18 @@ module _ (old now : Maps) (at k : ℕ) (f : ℕ → ConverterEntry) (before : Ad
 
 -- One leaf after the other
 
--- what a fault tells follows from what it told
+-- what a fault says follows from what it said
 pub tells_on : (P Q : Damage → Type 0) (fault : PageFault) → ((d : Damage) → P d → Q d) → Tells P fault → Tells Q fault
 tells_on P Q Failed on is = tt
 tells_on P Q (Damaged d) on is = on d is
 
--- the same of a result
-pub if_err : {A E : Type 0} (result : Result A E) (P Q : E → Type 0) → ((e : E) → P e → Q e) → IfErr result P → IfErr result Q
-if_err (Ok a) P Q on is = tt
-if_err (Err e) P Q on is = on e is
+-- what a fault says follows on the answer that passes it on
+pub tells_passed : {U : Type 0} (P Q : Damage → Type 0) (fault : PageFault) (answer : Result U PageFault)
+    → IsErrAnd answer (λ passed. passed ≡ fault) → ((d : Damage) → P d → Q d) → Tells P fault
+    → IfErr answer (Tells Q)
+tells_passed P Q fault (Ok value) is on tells = absurd is
+tells_passed P Q fault (Err passed) is on tells =
+    subst (Tells Q) (sym is) (tells_on P Q fault on tells)
 
 -- the same maps over a row that reads the same
 pub under_row : (T : Type 0) (a m : Maps) (root : ℕ) (row other : ℕ → List ℕ) (i : ℕ) → (T → row ≡ other) → IsUnderWay T a m root row i → IsUnderWay T a m root other i

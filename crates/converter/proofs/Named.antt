@@ -1,6 +1,6 @@
 -- A map that stands on its blocks is the one that the bytes there name.
 --     named      the law
-use Rattle.std.proofs.Common.{◌≡◌, refl, sym, ap, subst, ◌∙◌, ℕ, zero, suc, ◌+◌, ◌-◌, ◌*◌, ◌<◌, ◌≤◌, ◌==◌, Bool, true, false, cond, List, [], ◌∷◌, ◌++◌, length, get_or, map, filter, take, drop, Some, None, ◌&&◌, nat_lt, inl, inr, length-append, arith}
+use Rattle.std.proofs.Common.{◌≡◌, refl, sym, ap, subst, ◌∙◌, ℕ, zero, suc, ◌+◌, ◌-◌, ◌*◌, ◌<◌, ◌==◌, Bool, true, false, cond, List, [], ◌∷◌, ◌++◌, length, get_or, map, filter, take, drop, Some, None, ◌&&◌, nat_lt, inl, inr, length-append, arith}
 use Rattle.std.specs.Prelude.{not, if◌then◌else◌, IsTrue, option_map, option_and_then}
 use Rattle.std.specs.List.{enumerate_from, list_all}
 use Rattle.std.proofs.lemmas.Bool.{cases_lt, eq-eqb, eqb-true}
@@ -11,11 +11,11 @@ use Rattle.mdb_bytes.specs.declared.converter_pages.ConverterRoot.{ConverterRoot
 use Rattle.mdb_bytes.specs.ConverterPages.{converter_entry_fits, converter_leaf_format, converter_leaf_fields, converter_leaf_fits, converter_root_format}
 use Rattle.mdb_bytes.specs.Fields.{fields_fit}
 use Rattle.mdb_bytes.specs.Firsts.{leaf_count}
-use Rattle.mdb_bytes.specs.KeptMaps.{KeptMap, Placed, root_of, leaf_of, leaf_with, entries_from, placed, pages_at, kept_under, root_with_leaves, kept_map}
+use Rattle.mdb_bytes.specs.KeptMaps.{Placed, root_of, leaf_of, leaf_with, entries_from, placed, pages_at, kept_under, root_with_leaves, kept_map}
 use Rattle.mdb_bytes.proofs.Decoding.{spelled-decoded}
 use Rattle.mdb_bytes.proofs.ConverterLaws.{converter_root_again, converter_leaf_again}
 use Rattle.converter.specs.Maps.{no_entry, entry_at, block_of}
-use Rattle.converter.specs.Tree.{IsRootOf, RootHeld, LeafHeld, HasTree}
+use Rattle.converter.specs.Tree.{LeafHeld, HasTree}
 
 -- the middle one of three tests
 middle : (a b c d : Bool) → ((a && b && c) && d) ≡ true → b ≡ true
@@ -52,7 +52,7 @@ module _ (row : ℕ → List ℕ) (m : List ConverterEntry) (conv : ℕ) where
     long_of v keeps =
         eqb-true (length v.entries) 600 (middle (nat_lt v.leaf 110) (length v.entries == 600) (list_all converter_entry_fits v.entries) (fields_fit (converter_leaf_fields v)) keeps)
 
-  -- the entries of leaves that stand one behind the other, from leaf number `leaf` on
+  -- the entries of leaves that stand one after the other, from leaf number `leaf` on
   record Entries (leaf : ℕ) (leaves : List ℕ) : Type 0 where
     pub entries : List ConverterEntry
     pub there : entries_from leaf (map row leaves) ≡ Some entries
@@ -103,7 +103,7 @@ module _ (row : ℕ → List ℕ) (m : List ConverterEntry) (conv : ℕ) where
     all : Entries 0 leaves
     all = entries_are 0 leaves (λ i less. subst (λ (b : ℕ). LeafHeld m conv (0 + i) (row b)) (sym (leaf_is i less)) (subst (λ n. LeafHeld m conv n (row (block_of m (i + 1)))) (omega arith) (tree.leaves i (omega (arith, less, count)))))
 
-    -- the entries of the leaves are those of the map's pages, with empty ones behind
+    -- the entries of the leaves are those of the map's pages, with empty ones after
     entry_same : (i : ℕ) → entry_at all.entries i ≡ entry_at (drop conv m) i
     entry_same i = elim (cases_lt i (600 * length leaves)) [
       | inl low ↦ all.are i low ∙ ap (entry_at m) (omega arith) ∙ sym (get_or-drop conv m i no_entry)

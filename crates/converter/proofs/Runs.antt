@@ -38,7 +38,7 @@ copied_more old from now at k e le lt is before = record {
     still : (q : ℕ) → (q < at) ⊎ (k + 1 ≤ q) → (q < at) ⊎ (k ≤ q)
     still q out = elim out [ inl lt ↦ inl lt | inr past ↦ inr (omega (arith, past)) ]
 
--- a loop that stopped at the end of the lists, or where it was told to
+-- a loop that stopped at the end of the lists, or where it had to
 pub copied_all : (old from now : List ConverterEntry) (at end stop i : ℕ) → length old ≡ length from → at ≤ end → stop ≤ end → (stop < end → length from ≤ stop) → stop ≤ i → (at ≤ stop → i ≤ stop)
     → Copied old from at i now → Copied old from at end now
 copied_all old from now at end stop i same le few far past upto copied = record {
@@ -68,7 +68,7 @@ copied_all old from now at end stop i same le few far past upto copied = record 
       | inr ge ↦ omega (arith, upto (omega (arith, le, ge)), few)
     ]
 
--- a leaf that was copied is not behind
+-- a leaf that was copied is not after
 pub caught_leaf : (conv leaf : ℕ) (present old now : List ConverterEntry) (flags : List Bool) → leaf < length flags → Copied old present (conv + 600 * leaf) (conv + 600 * leaf + 600) now
     → IsTracked conv present old flags → IsTracked conv present now (set flags leaf false)
 caught_leaf conv leaf present old now flags lt copied tracked i k less is = elim (cases_eq i leaf) [
@@ -92,7 +92,7 @@ flag_down flags leaf i lt is = elim (cases_eq i leaf) [
 pub own_kept : (conv : ℕ) (present old now : List ConverterEntry) (flags : List Bool) → Copied old present 0 conv now → IsTracked conv present old flags → IsTracked conv present now flags
 own_kept conv present old now flags copied tracked i k less is = copied.others (conv + 600 * i + k) (inr (omega arith)) ∙ tracked i k less is
 
--- where no leaf is behind the maps are the same
+-- where no leaf is after the maps are the same
 pub all_caught : (conv : ℕ) (present now : List ConverterEntry) (flags : List Bool) → length now ≡ length present → length present ≤ conv + 66000
     → ((q : ℕ) → q < conv → entry_at now q ≡ entry_at present q) → ((i : ℕ) → i < 110 → get_or flags i true ≡ false) → IsTracked conv present now flags → now ≡ present
 all_caught conv present now flags same few own down tracked = ext_get_or no_entry now present same (λ q lt. elim (cases_lt q conv) [

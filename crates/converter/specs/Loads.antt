@@ -1,18 +1,21 @@
 -- Reading a map from its blocks.
 --     IsRead      the root and the first leaves of a map were read
---     IsOff, IsTaken      a block that no page may have
+--     IsOff      a block that no page may have
 --     named      the damage of a block
---     BreaksPlace, BreaksRoot, BreaksRow, BreaksLeaf, BreaksPages, Breaks      the first rule that is broken, and where
+--     BreaksPlace, BreaksRoot, BreaksRow, BreaksLeaf, BreaksPages, Breaks      the first rule that
+--         is broken, and where
 --     Admitted, IsRefused      entries that were taken into the maps one after the other
---     Tells      what a fault tells of the bytes
+--     Tells      what a fault says of the bytes
 --     row_of, TakesLeaf, RefusesLeaf, IsUnderWay      the steps of a load
-use Rattle.std.specs.Prelude.{◌≡◌, ◌⊎◌, ℕ, ◌+◌, ◌*◌, ◌<◌, ◌≤◌, List, length, get_or, replicate, None}
+use Rattle.std.specs.Prelude.{◌≡◌, ◌⊎◌, ℕ, ◌+◌, ◌*◌, ◌<◌, ◌≤◌}
+use Rattle.std.specs.Prelude.{List, length, get_or, replicate, None}
 use Rattle.mdb_model.specs.declared.fault.Damage.{Damage}
 use Rattle.mdb_model.specs.declared.fault.Device.TheVariants.{Data}
 use Rattle.mdb_model.specs.declared.fault.PageFault.{PageFault}
 use Rattle.mdb_model.specs.declared.fault.PageFault.TheVariants.{Failed, Damaged}
 use Rattle.mdb_model.specs.declared.fault.Rule.{Rule}
-use Rattle.mdb_model.specs.declared.fault.Rule.TheVariants.{Block, ConverterRoot as RootRule, ConverterLeaf as LeafRule}
+use Rattle.mdb_model.specs.declared.fault.Rule.TheVariants.{Block, ConverterRoot as RootRule}
+use Rattle.mdb_model.specs.declared.fault.Rule.TheVariants.{ConverterLeaf as LeafRule}
 use Rattle.mdb_bytes.specs.declared.converter_pages.ConverterEntry.{ConverterEntry}
 use Rattle.mdb_bytes.specs.declared.converter_pages.ConverterLeaf.{ConverterLeaf}
 use Rattle.mdb_bytes.specs.declared.converter_pages.ConverterRoot.{ConverterRoot}
@@ -24,9 +27,10 @@ use Rattle.converter.specs.Tree.{IsLeafOf, IsRootOf, LeafHeld, RootHeld}
 abbrev pub IsOff : (n b : ℕ) → Type 0
 IsOff n b = (b < 2) ⊎ (n ≤ b)
 
--- The root and the first i leaves of a map stand on its blocks, it has no page in the other leaves, and each of its
--- blocks serves one page.
-pub record IsRead (conv n root : ℕ) (row : ℕ → List ℕ) (i : ℕ) (l : List ConverterEntry) : Type 0 where
+-- The root and the first i leaves of a map stand on its blocks, it has no page in the other leaves,
+-- and each of its blocks serves one page.
+pub record IsRead (conv n root : ℕ) (row : ℕ → List ℕ) (i : ℕ)
+    (l : List ConverterEntry) : Type 0 where
   pub long : length l ≡ conv + n
   pub at : block_of l 0 ≡ root
   pub held : RootHeld l conv (row root)
@@ -38,7 +42,8 @@ pub record IsRead (conv n root : ℕ) (row : ℕ → List ℕ) (i : ℕ) (l : Li
 
 -- the damage that names a block
 abbrev pub named : (sizes : List ℕ) (b : ℕ) → Rule → Damage
-named sizes b rule = record { device = Data (place 1 sizes b).0; page = (place 1 sizes b).1; rule = rule }
+named sizes b rule =
+    record { device = Data (place 1 sizes b).0; page = (place 1 sizes b).1; rule = rule }
 
 -- the restart record names no block of the area: its own page is named
 pub record BreaksPlace (n root : ℕ) (damage : Damage) : Type 0 where
@@ -46,22 +51,28 @@ pub record BreaksPlace (n root : ℕ) (damage : Damage) : Type 0 where
   pub is : damage ≡ record { device = Data 1; page = 0; rule = Block }
 
 -- the root is none, or has another number of leaves
-pub record BreaksRoot (sizes : List ℕ) (conv root : ℕ) (row : ℕ → List ℕ) (damage : Damage) : Type 0 where
+pub record BreaksRoot (sizes : List ℕ) (conv root : ℕ) (row : ℕ → List ℕ)
+    (damage : Damage) : Type 0 where
   pub none : (value : ConverterRoot) → IsRootOf conv (row root) value → ⊥
   pub is : damage ≡ named sizes root RootRule
 
--- the root gives a leaf a block that is off the area or that it has itself, or that it gave a leaf before
-pub record BreaksRow (sizes : List ℕ) (conv n root : ℕ) (row : ℕ → List ℕ) (damage : Damage) : Type 0 where
+-- the root gives a leaf a block that is off the area or that it has itself, or that it gave a leaf
+-- before
+pub record BreaksRow (sizes : List ℕ) (conv n root : ℕ) (row : ℕ → List ℕ)
+    (damage : Damage) : Type 0 where
   pub value : ConverterRoot
   pub root_is : IsRootOf conv (row root) value
   pub leaf : ℕ
   pub there : leaf + 1 < conv
   pub bad : IsOff n (get_or value.leaves.items leaf 0)
-      ⊎ ((get_or value.leaves.items leaf 0 ≡ root) ⊎ ((j : ℕ) × (j < leaf) × (get_or value.leaves.items j 0 ≡ get_or value.leaves.items leaf 0)))
+      ⊎ ((get_or value.leaves.items leaf 0 ≡ root)
+      ⊎ ((j : ℕ) × (j < leaf)
+      × (get_or value.leaves.items j 0 ≡ get_or value.leaves.items leaf 0)))
   pub is : damage ≡ named sizes root Block
 
 -- the leaves before are in order, and this one is none or has another number
-pub record BreaksLeaf (sizes : List ℕ) (conv n root : ℕ) (row : ℕ → List ℕ) (damage : Damage) : Type 0 where
+pub record BreaksLeaf (sizes : List ℕ) (conv n root : ℕ) (row : ℕ → List ℕ)
+    (damage : Damage) : Type 0 where
   pub map : List ConverterEntry
   pub leaf : ℕ
   pub there : leaf + 1 < conv
@@ -69,9 +80,10 @@ pub record BreaksLeaf (sizes : List ℕ) (conv n root : ℕ) (row : ℕ → List
   pub none : (value : ConverterLeaf) → IsLeafOf n leaf (row (block_of map (leaf + 1))) value → ⊥
   pub is : damage ≡ named sizes (block_of map (leaf + 1)) LeafRule
 
--- the leaves before are in order, and this one gives a page a block that is off the area, or that another page of the
--- map has
-pub record BreaksPages (sizes : List ℕ) (conv n root : ℕ) (row : ℕ → List ℕ) (damage : Damage) : Type 0 where
+-- the leaves before are in order, and this one gives a page a block that is off the area, or that
+-- another page of the map has
+pub record BreaksPages (sizes : List ℕ) (conv n root : ℕ) (row : ℕ → List ℕ)
+    (damage : Damage) : Type 0 where
   pub map : List ConverterEntry
   pub leaf : ℕ
   pub there : leaf + 1 < conv
@@ -82,7 +94,8 @@ pub record BreaksPages (sizes : List ℕ) (conv n root : ℕ) (row : ℕ → Lis
   pub within : page < 600
   pub some : 0 < block_of value.entries page
   pub bad : IsOff n (block_of value.entries page)
-      ⊎ (((q : ℕ) × (block_of map q ≡ block_of value.entries page)) ⊎ ((j : ℕ) × (j < page) × (block_of value.entries j ≡ block_of value.entries page)))
+      ⊎ (((q : ℕ) × (block_of map q ≡ block_of value.entries page))
+      ⊎ ((j : ℕ) × (j < page) × (block_of value.entries j ≡ block_of value.entries page)))
   pub is : damage ≡ named sizes (block_of map (leaf + 1)) Block
 
 -- the first rule that is broken in the order of reading
@@ -90,11 +103,13 @@ abbrev pub Breaks : (sizes : List ℕ) (conv n root : ℕ) (row : ℕ → List �
 Breaks sizes conv n root row damage =
     BreaksPlace n root damage
     ⊎ (BreaksRoot sizes conv root row damage
-    ⊎ (BreaksRow sizes conv n root row damage ⊎ (BreaksLeaf sizes conv n root row damage ⊎ BreaksPages sizes conv n root row damage)))
+    ⊎ (BreaksRow sizes conv n root row damage
+    ⊎ (BreaksLeaf sizes conv n root row damage ⊎ BreaksPages sizes conv n root row damage)))
 
 -- One entry after the other
 
--- the maps as they are while they are read: the present one is that of the last savepoint, and none is frozen
+-- the maps as they are while they are read: the present one is that of the last savepoint, and none
+-- is frozen
 pub record IsLoading (m : Maps) : Type 0 where
   pub same : m.present ≡ m.saved
   pub blank : m.frozen ≡ replicate (length m.frozen) no_entry
@@ -112,9 +127,10 @@ pub record Admitted (old now : Maps) (at : ℕ) (entries : ℕ → ConverterEntr
 abbrev pub IsRefused : (old : Maps) (entries : ℕ → ConverterEntry) (k : ℕ) → Type 0
 IsRefused old entries k =
     IsOff (length old.owner) (entries k).block
-    ⊎ (((q : ℕ) × (block_of old.saved q ≡ (entries k).block)) ⊎ ((j : ℕ) × (j < k) × ((entries j).block ≡ (entries k).block)))
+    ⊎ (((q : ℕ) × (block_of old.saved q ≡ (entries k).block))
+    ⊎ ((j : ℕ) × (j < k) × ((entries j).block ≡ (entries k).block)))
 
--- what a fault tells of the bytes that were read
+-- what a fault says of the bytes that were read
 abbrev pub Tells : (Damage → Type 0) → PageFault → Type 0
 Tells broken Failed = Unit {0}
 Tells broken (Damaged damage) = broken damage
@@ -132,13 +148,17 @@ pub record TakesLeaf (old now : Maps) (i : ℕ) (bytes : List ℕ) : Type 0 wher
 -- the leaf is none, or has a page that is refused
 abbrev pub RefusesLeaf : (sizes : List ℕ) (old : Maps) (i : ℕ) (bytes : List ℕ) → Damage → Type 0
 RefusesLeaf sizes old i bytes damage =
-    (((value : ConverterLeaf) → IsLeafOf (length old.owner) i bytes value → ⊥) × (damage ≡ named sizes (block_of old.saved (i + 1)) LeafRule))
+    (((value : ConverterLeaf) → IsLeafOf (length old.owner) i bytes value → ⊥)
+    × (damage ≡ named sizes (block_of old.saved (i + 1)) LeafRule))
     ⊎ ((value : ConverterLeaf) × IsLeafOf (length old.owner) i bytes value
-    × ((k : ℕ) × (k < 600) × (0 < block_of value.entries k) × IsRefused old (entry_at value.entries) k)
+    × ((k : ℕ) × (k < 600) × (0 < block_of value.entries k)
+    × IsRefused old (entry_at value.entries) k)
     × (damage ≡ named sizes (block_of old.saved (i + 1)) Block))
 
--- the maps have the root and the first i leaves, as far as they are told, and a block for each leaf
-pub record IsUnderWay (tells : Type 0) (first now : Maps) (root : ℕ) (row : ℕ → List ℕ) (i : ℕ) : Type 0 where
+-- the maps have the root and the first i leaves, as far as they are known, and a block for each
+-- leaf
+pub record IsUnderWay (tells : Type 0) (first now : Maps) (root : ℕ) (row : ℕ → List ℕ)
+    (i : ℕ) : Type 0 where
   pub loading : IsLoading now
   pub conv : now.conv ≡ first.conv
   pub area : length now.owner ≡ length first.owner
@@ -147,4 +167,5 @@ pub record IsUnderWay (tells : Type 0) (first now : Maps) (root : ℕ) (row : �
   pub placed : (j : ℕ) → j + 1 < now.conv → 1 < block_of now.saved (j + 1)
   pub rest : (q : ℕ) → now.conv + 600 * i ≤ q → entry_at now.saved q ≡ no_entry
   pub held : tells → RootHeld now.saved now.conv (row root)
-  pub leaves : tells → (j : ℕ) → j < i → LeafHeld now.saved now.conv j (row (block_of now.saved (j + 1)))
+  pub leaves : tells → (j : ℕ) → j < i
+      → LeafHeld now.saved now.conv j (row (block_of now.saved (j + 1)))

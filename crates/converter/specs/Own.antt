@@ -23,7 +23,8 @@ pub record Fewer (old new : List Bool) (n : ℕ) : Type 0 where
 
 -- each block that was free is free still, or the frozen map has it at a place from one on
 abbrev pub Taken : (from : ℕ) (old new : List Bool) (m : Maps) → Type 0
-Taken from old new m = (b : ℕ) → IsFree old b → IsFree new b ⊎ ((q : ℕ) × (from ≤ q) × (block_of m.frozen q ≡ b))
+Taken from old new m =
+    (b : ℕ) → IsFree old b → IsFree new b ⊎ ((q : ℕ) × (from ≤ q) × (block_of m.frozen q ≡ b))
 
 -- own page q may have a block that was free, and nothing else changed
 pub record OneOwn (old new : Maps) (flags next : List Bool) (q : ℕ) : Type 0 where
@@ -39,4 +40,6 @@ LeavesHeld m n row = (i : ℕ) → i < n → LeafHeld m.frozen m.conv i (row (bl
 
 -- the leaves of the last savepoint's map stand on their blocks, those that it has
 abbrev pub SavedLeaves : Maps → (ℕ → List ℕ) → Type 0
-SavedLeaves m row = (i : ℕ) → i + 1 < m.conv → 0 < block_of m.saved (i + 1) → LeafHeld m.saved m.conv i (row (block_of m.saved (i + 1)))
+SavedLeaves m row =
+    (i : ℕ) → i + 1 < m.conv → 0 < block_of m.saved (i + 1)
+    → LeafHeld m.saved m.conv i (row (block_of m.saved (i + 1)))

@@ -3,7 +3,8 @@
 --     LeafHeld, RootHeld, HasTree      the leaves and the root of a map
 --     Took      an own page was given a block
 --     IsSameLeaf      a leaf that need not be written
-use Rattle.std.specs.Prelude.{◌≡◌, ℕ, ◌+◌, ◌*◌, ◌<◌, ◌≤◌, List, Bool, false, length, get_or, slice_set}
+use Rattle.std.specs.Prelude.{◌≡◌, ℕ, ◌+◌, ◌*◌, ◌<◌, ◌≤◌}
+use Rattle.std.specs.Prelude.{List, Bool, false, length, get_or, slice_set}
 use Rattle.free_blocks.specs.Free.{IsFree}
 use Rattle.mdb_bytes.specs.declared.converter_pages.ConverterEntry.{ConverterEntry}
 use Rattle.mdb_bytes.specs.declared.converter_pages.ConverterLeaf.{ConverterLeaf}
@@ -50,4 +51,5 @@ pub record Took (old new : Maps) (flags next : List Bool) (q savepoint b : ℕ) 
 -- leaf i of the frozen map is that of the last savepoint
 pub record IsSameLeaf (m : Maps) (i : ℕ) : Type 0 where
   pub had : 0 < block_of m.saved (i + 1)
-  pub same : (k : ℕ) → k < 600 → entry_at m.frozen (m.conv + 600 * i + k) ≡ entry_at m.saved (m.conv + 600 * i + k)
+  pub same : (k : ℕ) → k < 600
+      → entry_at m.frozen (m.conv + 600 * i + k) ≡ entry_at m.saved (m.conv + 600 * i + k)

@@ -1,5 +1,6 @@
 //! A map that is kept while the present one goes on.
-ghost use Rattle.std.specs.Prelude.{◌≡◌, ◌⊎◌, ◌↔◌, ℕ, ◌+◌, ◌*◌, ◌/◌, ◌<◌, ◌≤◌, length, replicate, ◌^◌, get_or, IsTrue, true, false};
+ghost use Rattle.std.specs.Prelude.{◌≡◌, ◌⊎◌, ◌↔◌, ℕ, ◌+◌, ◌*◌, ◌/◌, ◌<◌, ◌≤◌, ◌^◌};
+ghost use Rattle.std.specs.Prelude.{length, replicate, get_or, IsTrue, true, false};
 ghost use Rattle.free_blocks.specs.Free.{IsFree};
 ghost use Rattle.converter.specs.Maps.{no_entry, entry_at, block_of, LeavesIn, Given, IsTracked};
 
@@ -18,7 +19,7 @@ pub(crate) const NO_ENTRY: ConverterEntry = ConverterEntry { block: 0, stamp: 0 
 #[derive(Drop)]
 pub(crate) struct KeptMap {
     pub(crate) entries: Vec<ConverterEntry>,
-    pub(crate) behind: [bool; 110],
+    pub(crate) behind: [bool; LEAVES],
 }
 
 /// The entry at a place, or none past the end.
@@ -37,11 +38,11 @@ pub(crate) fn is_at(map: &[ConverterEntry], q: usize, b: u32) -> bool
 }
 
 /// The entries of 600 places from one on.
-pub(crate) fn run_of(map: &[ConverterEntry], at: usize) -> [ConverterEntry; 600]
+pub(crate) fn run_of(map: &[ConverterEntry], at: usize) -> [ConverterEntry; PAGES]
     requires { at + 600 < 2 ^ 32 }
     ensures { (k : ℕ) → k < 600 → entry_at result k ≡ entry_at map.now (at + k) }
 {
-    let mut run = [NO_ENTRY; 600];
+    let mut run = [NO_ENTRY; PAGES];
     for k in 0..PAGES {
         run[k] = entry_of(map, at + k);
     }
@@ -51,7 +52,8 @@ pub(crate) fn run_of(map: &[ConverterEntry], at: usize) -> [ConverterEntry; 600]
 /// Whether two maps have the same entries in 600 places from one on.
 pub(crate) fn same_run(one: &[ConverterEntry], two: &[ConverterEntry], at: usize) -> bool
     requires { at + 600 < 2 ^ 32 }
-    ensures { IsTrue result ↔ ((k : ℕ) → k < 600 → entry_at one.now (at + k) ≡ entry_at two.now (at + k)) }
+    ensures { IsTrue result
+        ↔ ((k : ℕ) → k < 600 → entry_at one.now (at + k) ≡ entry_at two.now (at + k)) }
 {
     for k in 0..PAGES {
         if entry_of(one, at + k) != entry_of(two, at + k) {
@@ -80,12 +82,15 @@ fn catch_leaf(kept: &mut KeptMap, present: &[ConverterEntry], conv: usize, leaf:
     requires small { conv ≤ 111 }
     requires leaf { leaf < 110 }
     requires tracked { IsTracked conv present.now kept.old.entries.items kept.old.behind }
+    // The result.
     ensures long { length kept.new.entries.items ≡ length kept.old.entries.items }
     ensures tracked { IsTracked conv present.now kept.new.entries.items kept.new.behind }
     ensures flags { length kept.new.behind ≡ length kept.old.behind }
     ensures caught { get_or kept.new.behind leaf true ≡ false }
-    ensures others { (i : ℕ) → get_or kept.old.behind i true ≡ false → get_or kept.new.behind i true ≡ false }
-    ensures own { (q : ℕ) → q < conv → entry_at kept.new.entries.items q ≡ entry_at kept.old.entries.items q }
+    ensures others { (i : ℕ) → get_or kept.old.behind i true ≡ false
+        → get_or kept.new.behind i true ≡ false }
+    ensures own { (q : ℕ) → q < conv
+        → entry_at kept.new.entries.items q ≡ entry_at kept.old.entries.items q }
 {
     if kept.behind[leaf] {
         let at = conv + PAGES * leaf;
@@ -94,7 +99,8 @@ fn catch_leaf(kept: &mut KeptMap, present: &[ConverterEntry], conv: usize, leaf:
     }
 }
 
-/// Makes a kept map the present one: copies the leaves that are behind, and the converter's own pages.
+/// Makes a kept map the present one: copies the leaves that may differ, and the converter's
+/// own pages.
 pub(crate) fn catch_up(kept: &mut KeptMap, present: &[ConverterEntry], conv: usize)
     requires long { length kept.old.entries.items ≡ length present.now }
     requires small { (conv ≤ 111) × (length present.now ≤ conv + 66000) }
@@ -117,16 +123,19 @@ fn is_left(
     frozen: &[ConverterEntry],
     k: usize,
 ) -> bool
-    requires long { (length present.now ≡ length saved.now) × (length frozen.now ≡ length saved.now) }
+    requires long { (length present.now ≡ length saved.now)
+        × (length frozen.now ≡ length saved.now) }
     requires place { k < length saved.now }
     requires small { block_of saved.now k < length marks.now }
-    ensures { IsTrue result ↔ LeavesIn present.now saved.now frozen.now marks.now k (block_of saved.now k) }
+    ensures { IsTrue result
+        ↔ LeavesIn present.now saved.now frozen.now marks.now k (block_of saved.now k) }
 {
     let b = saved[k].block;
     b != 0 && present[k].block != b && frozen[k].block != b && !marks.marked(b)
 }
 
-// Gives free each block that only the last savepoint's map has, in the places from one on, up to another.
+// Frees each block that only the last savepoint's map has, in the places from one on, up to
+// another.
 fn give_run(
     free: &mut FreeBlocks,
     marks: &Marks,
@@ -136,12 +145,15 @@ fn give_run(
     at: usize,
     end: usize,
 )
-    requires long { (length present.now ≡ length saved.now) × (length frozen.now ≡ length saved.now) }
+    requires long { (length present.now ≡ length saved.now)
+        × (length frozen.now ≡ length saved.now) }
     requires area { length marks.now ≡ length free.old }
     requires range { at ≤ end }
     requires small { (q : ℕ) → block_of saved.now q < length free.old }
-    requires apart { (p q : ℕ) → 0 < block_of saved.now p → block_of saved.now p ≡ block_of saved.now q → p ≡ q }
-    requires taken { (q : ℕ) → at ≤ q → 0 < block_of saved.now q → IsFree free.old (block_of saved.now q) → ⊥ }
+    requires apart { (p q : ℕ) → 0 < block_of saved.now p
+        → block_of saved.now p ≡ block_of saved.now q → p ≡ q }
+    requires taken { (q : ℕ) → at ≤ q → 0 < block_of saved.now q
+        → IsFree free.old (block_of saved.now q) → ⊥ }
     ensures { Given (LeavesIn present.now saved.now frozen.now marks.now) at end free.old free.new }
 {
     for k in at..end.min(saved.len()) {
@@ -161,21 +173,27 @@ fn give_leaf(
     at: usize,
     leaf: usize,
 )
-    requires long { (length present.now ≡ length saved.now.entries.items) × (length frozen.now ≡ length saved.now.entries.items) }
+    requires long { (length present.now ≡ length saved.now.entries.items)
+        × (length frozen.now ≡ length saved.now.entries.items) }
     requires area { length marks.now ≡ length free.old }
     requires leaf { (leaf < 110) × (at < 2 ^ 20) }
     requires small { (q : ℕ) → block_of saved.now.entries.items q < length free.old }
-    requires apart { (p q : ℕ) → 0 < block_of saved.now.entries.items p → block_of saved.now.entries.items p ≡ block_of saved.now.entries.items q → p ≡ q }
-    requires taken { (q : ℕ) → at ≤ q → 0 < block_of saved.now.entries.items q → IsFree free.old (block_of saved.now.entries.items q) → ⊥ }
-    requires tracked { get_or saved.now.behind leaf true ≡ false → (k : ℕ) → k < 600 → entry_at saved.now.entries.items (at + k) ≡ entry_at present.now (at + k) }
-    ensures { Given (LeavesIn present.now saved.now.entries.items frozen.now marks.now) at (at + 600) free.old free.new }
+    requires apart { (p q : ℕ) → 0 < block_of saved.now.entries.items p
+        → block_of saved.now.entries.items p ≡ block_of saved.now.entries.items q → p ≡ q }
+    requires taken { (q : ℕ) → at ≤ q → 0 < block_of saved.now.entries.items q
+        → IsFree free.old (block_of saved.now.entries.items q) → ⊥ }
+    requires tracked { get_or saved.now.behind leaf true ≡ false → (k : ℕ) → k < 600
+        → entry_at saved.now.entries.items (at + k) ≡ entry_at present.now (at + k) }
+    // The result.
+    ensures { Given (LeavesIn present.now saved.now.entries.items frozen.now marks.now) at
+        (at + 600) free.old free.new }
 {
     if saved.behind[leaf] {
         give_run(free, marks, present, &saved.entries, frozen, at, at + PAGES);
     }
 }
 
-/// Gives free each block that only the last savepoint's map has.
+/// Frees each block that only the last savepoint's map has.
 pub(crate) fn give_left(
     free: &mut FreeBlocks,
     marks: &Marks,
@@ -184,14 +202,19 @@ pub(crate) fn give_left(
     frozen: &[ConverterEntry],
     conv: usize,
 )
-    requires long { (length present.now ≡ length saved.now.entries.items) × (length frozen.now ≡ length saved.now.entries.items) }
+    requires long { (length present.now ≡ length saved.now.entries.items)
+        × (length frozen.now ≡ length saved.now.entries.items) }
     requires area { length marks.now ≡ length free.old }
     requires few { (conv ≤ 111) × (length saved.now.entries.items ≤ conv + 66000) }
     requires small { (q : ℕ) → block_of saved.now.entries.items q < length free.old }
-    requires apart { (p q : ℕ) → 0 < block_of saved.now.entries.items p → block_of saved.now.entries.items p ≡ block_of saved.now.entries.items q → p ≡ q }
-    requires taken { (q : ℕ) → 0 < block_of saved.now.entries.items q → IsFree free.old (block_of saved.now.entries.items q) → ⊥ }
+    requires apart { (p q : ℕ) → 0 < block_of saved.now.entries.items p
+        → block_of saved.now.entries.items p ≡ block_of saved.now.entries.items q → p ≡ q }
+    requires taken { (q : ℕ) → 0 < block_of saved.now.entries.items q
+        → IsFree free.old (block_of saved.now.entries.items q) → ⊥ }
     requires tracked { IsTracked conv present.now saved.now.entries.items saved.now.behind }
-    ensures { Given (LeavesIn present.now saved.now.entries.items frozen.now marks.now) 0 (length saved.now.entries.items) free.old free.new }
+    // The result.
+    ensures { Given (LeavesIn present.now saved.now.entries.items frozen.now marks.now) 0
+        (length saved.now.entries.items) free.old free.new }
 {
     give_run(free, marks, present, &saved.entries, frozen, 0, conv);
     for leaf in 0..LEAVES {

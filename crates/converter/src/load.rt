@@ -1,12 +1,17 @@
 //! Reading the map of the last savepoint.
-ghost use Rattle.std.specs.Prelude.{◌≡◌, ◌⊎◌, ◌↔◌, ℕ, ◌+◌, ◌-◌, ◌*◌, ◌<◌, ◌≤◌, ◌^◌, List, length, sum, replicate, get_or, IfOk, IfErr, OnOk, OnErr, Err, IsTrue, MatchOption, None};
+ghost use Rattle.std.specs.Prelude.{◌≡◌, ◌⊎◌, ◌↔◌, ℕ, ◌+◌, ◌-◌, ◌*◌, ◌<◌, ◌≤◌, ◌^◌};
+ghost use Rattle.std.specs.Prelude.{List, length, sum, replicate, get_or, IfOk, IfErr, OnOk, OnErr};
+ghost use Rattle.std.specs.Prelude.{Err, IsTrue, MatchOption, None};
 ghost use Rattle.mdb_model.specs.Causes.{Rose};
 ghost use Rattle.mdb_host.specs.Disk.{Disk, Goes, Agree};
 ghost use Rattle.mdb_bytes.specs.ConverterPages.{converter_entry_fits};
 ghost use Rattle.volume_disk.specs.Blocks.{IsArea, block_at};
-ghost use Rattle.converter.specs.Maps.{Maps, IsSound, no_entry, entry_at, block_of, IsUsed, empty_maps, with_loaded};
+ghost use Rattle.converter.specs.Maps.{Maps, IsSound, no_entry, entry_at, block_of, IsUsed};
+ghost use Rattle.converter.specs.Maps.{empty_maps, with_loaded};
 ghost use Rattle.converter.specs.Tree.{IsLeafOf, IsRootOf};
-ghost use Rattle.converter.specs.Loads.{IsOff, IsRead, IsLoading, named, BreaksRoot, BreaksRow, Breaks, Admitted, IsRefused, Tells, row_of, TakesLeaf, RefusesLeaf, IsUnderWay};
+ghost use Rattle.converter.specs.Loads.{IsOff, IsRead, IsLoading, named, BreaksRoot, BreaksRow};
+ghost use Rattle.converter.specs.Loads.{Breaks, Admitted, IsRefused, Tells, row_of, TakesLeaf};
+ghost use Rattle.converter.specs.Loads.{RefusesLeaf, IsUnderWay};
 
 use crate::kept::{NO_ENTRY, PAGES};
 use crate::maps::Converter;
@@ -15,6 +20,7 @@ use mdb_bytes::{
 };
 use mdb_host::{Device, Host};
 use mdb_model::fault::{Damage, PageFault, Rule};
+use mdb_model::limits::PAGE_BYTES;
 use volume_disk::Volumes;
 
 // A rule that a block breaks.
@@ -31,7 +37,7 @@ fn broken(volumes: &Volumes, b: u32, rule: Rule) -> PageFault
 }
 
 // Whether no page stands in the entries from one on.
-fn none_from(entries: &[ConverterEntry; 600], from: usize) -> bool
+fn none_from(entries: &[ConverterEntry; PAGES], from: usize) -> bool
     ensures { IsTrue result ↔ ((k : ℕ) → k < 600 → from ≤ k → entry_at entries.now k ≡ no_entry) }
 {
     for k in 0..PAGES {
@@ -43,9 +49,10 @@ fn none_from(entries: &[ConverterEntry; 600], from: usize) -> bool
 }
 
 // The leaf of this number that the bytes spell.
-fn leaf_in(bytes: &[u8; 8192], leaf: u32, blocks: u32) -> Option<ConverterLeaf>
+fn leaf_in(bytes: &[u8; PAGE_BYTES], leaf: u32, blocks: u32) -> Option<ConverterLeaf>
     requires { leaf < 110 }
-    ensures { MatchOption result ((v : ConverterLeaf) → IsLeafOf blocks leaf bytes.now v → ⊥) (IsLeafOf blocks leaf bytes.now) }
+    ensures { MatchOption result ((v : ConverterLeaf) → IsLeafOf blocks leaf bytes.now v → ⊥)
+        (IsLeafOf blocks leaf bytes.now) }
 {
     let value = decode_converter_leaf(bytes)?;
     if value.leaf != leaf {
@@ -59,9 +66,10 @@ fn leaf_in(bytes: &[u8; 8192], leaf: u32, blocks: u32) -> Option<ConverterLeaf>
     }
 }
 
-// The root with so many leaves that the bytes spell.
-fn root_in(bytes: &[u8; 8192], leaves: u32) -> Option<ConverterRoot>
-    ensures { MatchOption result ((v : ConverterRoot) → IsRootOf (leaves + 1) bytes.now v → ⊥) (IsRootOf (leaves + 1) bytes.now) }
+// The root with this number of leaves that the bytes spell.
+fn root_in(bytes: &[u8; PAGE_BYTES], leaves: u32) -> Option<ConverterRoot>
+    ensures { MatchOption result ((v : ConverterRoot) → IsRootOf (leaves + 1) bytes.now v → ⊥)
+        (IsRootOf (leaves + 1) bytes.now) }
 {
     let value = decode_converter_root(bytes)?;
     if value.leaves.len() == leaves as usize {
@@ -80,15 +88,24 @@ fn read_root<H: Host>(
 ) -> Result<ConverterRoot, PageFault>
     requires below { root < sum volumes.now }
     requires there { H.tells → IsArea volumes.now (H.disk host.old).seen }
-    ensures is { IfOk result (λ value. (bytes : List ℕ) × IsRootOf (leaves + 1) bytes value × (H.tells → bytes ≡ block_at volumes.now (H.disk host.old).seen root)) }
-    ensures broken { IfErr result (Tells (λ damage. H.tells → BreaksRoot volumes.now (leaves + 1) root (block_at volumes.now (H.disk host.old).seen) damage)) }
+    // The result.
+    ensures is { IfOk result
+        (λ value. (bytes : List ℕ) × IsRootOf (leaves + 1) bytes value
+        × (H.tells → bytes ≡ block_at volumes.now (H.disk host.old).seen root)) }
+    ensures broken { IfErr result
+        (Tells
+        (λ damage. H.tells
+        → BreaksRoot volumes.now (leaves + 1) root
+        (block_at volumes.now (H.disk host.old).seen) damage)) }
+    // The devices.
     ensures calm { H.tells → Goes (H.disk host.old) (H.disk host.new) Agree }
     ensures seen { H.tells → Agree (H.disk host.old).seen (H.disk host.new).seen }
+    // The faults.
     ensures later { H.faults host.old ≤ H.faults host.new }
     ensures cause { result ≡ Err PageFault.Failed → Rose (H.faults host.old) (H.faults host.new) }
     ensures say_faults { H.say_faults host.new ≡ H.say_faults host.old }
 {
-    let mut page = [0u8; 8192];
+    let mut page = [0u8; PAGE_BYTES];
     let Ok(()) = volumes.read_block(host, root, &mut page) else {
         return Err(PageFault::Failed);
     };
@@ -99,15 +116,19 @@ fn read_root<H: Host>(
 }
 
 impl Converter {
-    // Puts a page where it stands, in the present map and in that of the last savepoint; a block off the
-    // area or one that serves another page is refused, and nothing changes.
+    // Puts a page where it stands, in the present map and in that of the last savepoint; a block
+    // off the area or one that serves another page is refused, and nothing changes.
     fn admit(&mut self, q: usize, entry: ConverterEntry) -> bool
         requires place { q < self.old.conv + length self.old.owner }
         requires loading { IsLoading self.old }
         requires stamp { entry.stamp < 2 ^ 62 }
         requires fits { self.old.conv ≤ q → IsTrue (converter_entry_fits entry) }
-        ensures taken { IsTrue result → (IsOff (length self.old.owner) entry.block → ⊥) × (IsUsed self.old entry.block → ⊥) × (self.new ≡ with_loaded self.old q entry) }
-        ensures refused { (IsTrue result → ⊥) → (IsOff (length self.old.owner) entry.block ⊎ IsUsed self.old entry.block) × (self.new ≡ self.old) }
+        ensures taken { IsTrue result
+            → (IsOff (length self.old.owner) entry.block → ⊥) × (IsUsed self.old entry.block → ⊥)
+            × (self.new ≡ with_loaded self.old q entry) }
+        ensures refused { (IsTrue result → ⊥)
+            → (IsOff (length self.old.owner) entry.block ⊎ IsUsed self.old entry.block)
+            × (self.new ≡ self.old) }
         ensures sound { IsSound self.old }
     {
         let blocks = self.blocks();
@@ -127,9 +148,13 @@ impl Converter {
         requires loading { IsLoading self.old }
         requires stamp { root.now.savepoint < 2 ^ 62 }
         requires long { length root.now.leaves.items + 1 ≡ self.old.conv }
-        ensures taken { IsTrue result → Admitted self.old self.new 1 (row_of root.now) (length root.now.leaves.items) }
-        ensures placed { IsTrue result → (k : ℕ) → k < length root.now.leaves.items → 1 < get_or root.now.leaves.items k 0 }
-        ensures refused { (IsTrue result → ⊥) → (k : ℕ) × (k < length root.now.leaves.items) × IsRefused self.old (row_of root.now) k }
+        ensures taken { IsTrue result
+            → Admitted self.old self.new 1 (row_of root.now) (length root.now.leaves.items) }
+        ensures placed { IsTrue result → (k : ℕ) → k < length root.now.leaves.items
+            → 1 < get_or root.now.leaves.items k 0 }
+        ensures refused { (IsTrue result → ⊥)
+            → (k : ℕ) × (k < length root.now.leaves.items)
+            × IsRefused self.old (row_of root.now) k }
         ensures area { length self.new.owner ≡ length self.old.owner }
     {
         for k in 0..root.leaves.len() {
@@ -145,15 +170,21 @@ impl Converter {
     }
 
     // Puts the pages of a leaf.
-    fn admit_pages(&mut self, leaf: u32, entries: &[ConverterEntry; 600]) -> bool
+    fn admit_pages(&mut self, leaf: u32, entries: &[ConverterEntry; PAGES]) -> bool
         requires leaf { leaf + 1 < self.old.conv }
         requires loading { IsLoading self.old }
         requires stamps { (k : ℕ) → k < 600 → (entry_at entries.now k).stamp < 2 ^ 62 }
         requires fits { (k : ℕ) → k < 600 → IsTrue (converter_entry_fits (entry_at entries.now k)) }
-        requires past { (k : ℕ) → k < 600 → length self.old.owner ≤ 600 * leaf + k → entry_at entries.now k ≡ no_entry }
-        requires empty { (q : ℕ) → self.old.conv + 600 * leaf ≤ q → entry_at self.old.saved q ≡ no_entry }
-        ensures taken { IsTrue result → Admitted self.old self.new (self.old.conv + 600 * leaf) (entry_at entries.now) 600 }
-        ensures refused { (IsTrue result → ⊥) → (k : ℕ) × (k < 600) × (0 < block_of entries.now k) × IsRefused self.old (entry_at entries.now) k }
+        requires past { (k : ℕ) → k < 600 → length self.old.owner ≤ 600 * leaf + k
+            → entry_at entries.now k ≡ no_entry }
+        requires empty { (q : ℕ) → self.old.conv + 600 * leaf ≤ q
+            → entry_at self.old.saved q ≡ no_entry }
+        // The result.
+        ensures taken { IsTrue result
+            → Admitted self.old self.new (self.old.conv + 600 * leaf) (entry_at entries.now) 600 }
+        ensures refused { (IsTrue result → ⊥)
+            → (k : ℕ) × (k < 600) × (0 < block_of entries.now k)
+            × IsRefused self.old (entry_at entries.now) k }
         ensures area { length self.new.owner ≡ length self.old.owner }
     {
         let at = 1 + self.leaves() as usize + PAGES * leaf as usize;
@@ -174,22 +205,38 @@ impl Converter {
     ) -> Result<(), PageFault>
         requires leaf { leaf + 1 < self.old.conv }
         requires loading { IsLoading self.old }
-        requires empty { (q : ℕ) → self.old.conv + 600 * leaf ≤ q → entry_at self.old.saved q ≡ no_entry }
+        requires empty { (q : ℕ) → self.old.conv + 600 * leaf ≤ q
+            → entry_at self.old.saved q ≡ no_entry }
         requires area { sum volumes.now ≡ length self.old.owner }
         requires there { H.tells → IsArea volumes.now (H.disk host.old).seen }
-        ensures taken { OnOk result ((bytes : List ℕ) × TakesLeaf self.old self.new leaf bytes × (H.tells → bytes ≡ block_at volumes.now (H.disk host.old).seen (block_of self.old.saved (leaf + 1)))) }
-        ensures broken { IfErr result (Tells (λ damage. H.tells → RefusesLeaf volumes.now self.old leaf (block_at volumes.now (H.disk host.old).seen (block_of self.old.saved (leaf + 1))) damage)) }
+        // The result.
+        ensures taken { OnOk result
+            ((bytes : List ℕ) × TakesLeaf self.old self.new leaf bytes
+            × (H.tells
+            → bytes
+            ≡ block_at volumes.now (H.disk host.old).seen
+            (block_of self.old.saved (leaf + 1)))) }
+        ensures broken { IfErr result
+            (Tells
+            (λ damage. H.tells
+            → RefusesLeaf volumes.now self.old leaf
+            (block_at volumes.now (H.disk host.old).seen
+            (block_of self.old.saved (leaf + 1)))
+            damage)) }
         ensures size { length self.new.owner ≡ length self.old.owner }
         ensures sound { IsSound self.old }
+        // The devices.
         ensures calm { H.tells → Goes (H.disk host.old) (H.disk host.new) Agree }
         ensures seen { H.tells → Agree (H.disk host.old).seen (H.disk host.new).seen }
+        // The faults.
         ensures later { H.faults host.old ≤ H.faults host.new }
-        ensures cause { result ≡ Err PageFault.Failed → Rose (H.faults host.old) (H.faults host.new) }
+        ensures cause { result ≡ Err PageFault.Failed
+            → Rose (H.faults host.old) (H.faults host.new) }
         ensures say_faults { H.say_faults host.new ≡ H.say_faults host.old }
     {
         let blocks = self.blocks();
         let b = self.own_block(leaf + 1);
-        let mut page = [0u8; 8192];
+        let mut page = [0u8; PAGE_BYTES];
         let Ok(()) = volumes.read_block(host, b, &mut page) else {
             return Err(PageFault::Failed);
         };
@@ -210,23 +257,31 @@ impl Converter {
         volumes: &Volumes,
         root: u32,
     ) -> Result<(), PageFault>
-        requires way { IsUnderWay H.tells self.old self.old root (block_at volumes.now (H.disk host.old).seen) 0 }
+        requires way { IsUnderWay H.tells self.old self.old root
+            (block_at volumes.now (H.disk host.old).seen) 0 }
         requires area { sum volumes.now ≡ length self.old.owner }
         requires there { H.tells → IsArea volumes.now (H.disk host.old).seen }
-        ensures read { OnOk result (IsUnderWay H.tells self.old self.new root (block_at volumes.now (H.disk host.old).seen) (self.old.conv - 1)) }
-        ensures broken { IfErr result (Tells (λ damage. H.tells → Breaks volumes.now self.old.conv (length self.old.owner) root (block_at volumes.now (H.disk host.old).seen) damage)) }
+        // The result.
+        ensures read { OnOk result
+            (IsUnderWay H.tells self.old self.new root (block_at volumes.now (H.disk host.old).seen)
+            (self.old.conv - 1)) }
+        ensures broken { IfErr result
+            (Tells
+            (λ damage. H.tells
+            → Breaks volumes.now self.old.conv (length self.old.owner) root
+            (block_at volumes.now (H.disk host.old).seen) damage)) }
         ensures size { length self.new.owner ≡ length self.old.owner }
+        // The devices.
         ensures calm { H.tells → Goes (H.disk host.old) (H.disk host.new) Agree }
         ensures seen { H.tells → Agree (H.disk host.old).seen (H.disk host.new).seen }
+        // The faults.
         ensures later { H.faults host.old ≤ H.faults host.new }
-        ensures cause { result ≡ Err PageFault.Failed → Rose (H.faults host.old) (H.faults host.new) }
+        ensures cause { result ≡ Err PageFault.Failed
+            → Rose (H.faults host.old) (H.faults host.new) }
         ensures say_faults { H.say_faults host.new ≡ H.say_faults host.old }
     {
         for leaf in 0..self.leaves() {
-            match self.load_leaf(host, volumes, leaf) {
-                Ok(()) => {}
-                Err(fault) => return Err(fault),
-            }
+            self.load_leaf(host, volumes, leaf)?;
         }
         Ok(())
     }
@@ -241,13 +296,23 @@ impl Converter {
         requires blank { self.old ≡ empty_maps (length self.old.owner) self.old.owner }
         requires area { sum volumes.now ≡ length self.old.owner }
         requires there { H.tells → IsArea volumes.now (H.disk host.old).seen }
-        ensures read { OnOk result (IsUnderWay H.tells self.old self.new root (block_at volumes.now (H.disk host.old).seen) (self.old.conv - 1)) }
-        ensures broken { IfErr result (Tells (λ damage. H.tells → Breaks volumes.now self.old.conv (length self.old.owner) root (block_at volumes.now (H.disk host.old).seen) damage)) }
+        // The result.
+        ensures read { OnOk result
+            (IsUnderWay H.tells self.old self.new root (block_at volumes.now (H.disk host.old).seen)
+            (self.old.conv - 1)) }
+        ensures broken { IfErr result
+            (Tells
+            (λ damage. H.tells
+            → Breaks volumes.now self.old.conv (length self.old.owner) root
+            (block_at volumes.now (H.disk host.old).seen) damage)) }
         ensures size { length self.new.owner ≡ length self.old.owner }
+        // The devices.
         ensures calm { H.tells → Goes (H.disk host.old) (H.disk host.new) Agree }
         ensures seen { H.tells → Agree (H.disk host.old).seen (H.disk host.new).seen }
+        // The faults.
         ensures later { H.faults host.old ≤ H.faults host.new }
-        ensures cause { result ≡ Err PageFault.Failed → Rose (H.faults host.old) (H.faults host.new) }
+        ensures cause { result ≡ Err PageFault.Failed
+            → Rose (H.faults host.old) (H.faults host.new) }
         ensures say_faults { H.say_faults host.new ≡ H.say_faults host.old }
     {
         let blocks = self.blocks();
@@ -259,10 +324,7 @@ impl Converter {
                 rule: Rule::Block,
             }));
         }
-        let value = match read_root(host, volumes, root, leaves) {
-            Ok(value) => value,
-            Err(fault) => return Err(fault),
-        };
+        let value = read_root(host, volumes, root, leaves)?;
         let entry = ConverterEntry {
             block: root,
             stamp: value.savepoint,
@@ -275,10 +337,10 @@ impl Converter {
     }
 
     /// Reads the map whose root stands in a block: it is then the present map and that of the last
-    /// savepoint, and none is frozen. Whatever the maps were before is gone. After an error all maps
-    /// are empty. The damage of a block is named by the volume and the page where it lies; that of a
-    /// root which is no block of the area by the first page of the first volume, where the restart
-    /// record stands.
+    /// savepoint, and none is frozen. Whatever the maps were before is gone. After an error all
+    /// maps are empty. The damage of a block is named by the volume and the page where it lies;
+    /// that of a root which is no block of the area by the first page of the first volume, where
+    /// the restart record stands.
     pub fn load<H: Host>(
         &mut self,
         host: &mut H,
@@ -287,20 +349,38 @@ impl Converter {
     ) -> Result<(), PageFault>
         requires area { sum volumes.now ≡ length self.old.owner }
         requires there { H.tells → IsArea volumes.now (H.disk host.old).seen }
-        ensures maps { OnOk result (self.new ≡ record (empty_maps (length self.old.owner) self.new.owner) { present = self.new.saved; saved = self.new.saved }) }
-        ensures read { OnOk result (H.tells → IsRead self.new.conv (length self.new.owner) root (block_at volumes.now (H.disk host.old).seen) (self.new.conv - 1) self.new.saved) }
-        ensures whole { OnOk result (H.tells → (damage : Damage) → Breaks volumes.now self.new.conv (length self.new.owner) root (block_at volumes.now (H.disk host.old).seen) damage → ⊥) }
-        ensures empty { OnErr result (self.new ≡ empty_maps (length self.old.owner) self.new.owner) }
-        ensures broken { IfErr result (Tells (λ damage. H.tells → Breaks volumes.now self.new.conv (length self.old.owner) root (block_at volumes.now (H.disk host.old).seen) damage)) }
+        ensures maps { OnOk result
+            (self.new
+            ≡ record (empty_maps (length self.old.owner) self.new.owner)
+            { present = self.new.saved; saved = self.new.saved }) }
+        ensures read { OnOk result
+            (H.tells
+            → IsRead self.new.conv (length self.new.owner) root
+            (block_at volumes.now (H.disk host.old).seen) (self.new.conv - 1)
+            self.new.saved) }
+        ensures whole { OnOk result
+            (H.tells → (damage : Damage)
+            → Breaks volumes.now self.new.conv (length self.new.owner) root
+            (block_at volumes.now (H.disk host.old).seen) damage
+            → ⊥) }
+        ensures empty { OnErr result
+            (self.new ≡ empty_maps (length self.old.owner) self.new.owner) }
+        ensures broken { IfErr result
+            (Tells
+            (λ damage. H.tells
+            → Breaks volumes.now self.new.conv (length self.old.owner) root
+            (block_at volumes.now (H.disk host.old).seen) damage)) }
         ensures size { length self.new.owner ≡ length self.old.owner }
         ensures calm { H.tells → Goes (H.disk host.old) (H.disk host.new) Agree }
         ensures seen { H.tells → Agree (H.disk host.old).seen (H.disk host.new).seen }
         ensures later { H.faults host.old ≤ H.faults host.new }
-        ensures cause { result ≡ Err PageFault.Failed → Rose (H.faults host.old) (H.faults host.new) }
+        ensures cause { result ≡ Err PageFault.Failed
+            → Rose (H.faults host.old) (H.faults host.new) }
         ensures say_faults { H.say_faults host.new ≡ H.say_faults host.old }
     {
         self.empty();
         let read = self.read_map(host, volumes, root);
+        // Opens the invariant of the maps.
         let _leaves = self.leaves();
         if read.is_err() {
             self.empty();

@@ -1,7 +1,21 @@
-//! The maps from pages to blocks.
-ghost use Rattle.std.specs.Prelude.{◌≡◌, ◌≢◌, ◌⊎◌, ◌↔◌, ℕ, ◌+◌, ◌-◌, ◌*◌, ◌/◌, ◌<◌, ◌≤◌, ◌^◌, length, replicate, IfOk, IsSome, IsTrue, MatchOption, Some, None, slice_set, false};
+//! The maps from pages to blocks. What holds of them at any time (`IsSound`, `IsFollowed`):
+//!
+//! 1. The area has 1 to 65,536 blocks. The converter has a root and a leaf for each 600 of them.
+//! 2. The three maps have one length: the own pages of the converter, and a place for each block.
+//! 3. Each entry is of a block of the area, with a stamp below 2^62, as the format has it.
+//! 4. The present map has the own pages of the frozen map, or of the last savepoint's map while no
+//!    map is frozen.
+//! 5. No map has one of the first two blocks.
+//! 6. A block has the same place in each map that has it, and the owner table names this place.
+//! 7. Where no flag says that a leaf of a kept map is behind, it is that of the present map.
+ghost use Rattle.std.specs.Prelude.{◌≡◌, ◌≢◌, ◌⊎◌, ◌↔◌, ℕ, ◌+◌, ◌-◌, ◌*◌, ◌/◌, ◌<◌, ◌≤◌, ◌^◌};
+ghost use Rattle.std.specs.Prelude.{length, replicate, IfOk, IsSome, IsTrue, MatchOption, Some};
+ghost use Rattle.std.specs.Prelude.{None, slice_set, false};
+ghost use Rattle.mdb_model.specs.declared.limits.TheConstants.{MOST_BLOCKS};
 ghost use Rattle.free_blocks.specs.Free.{IsFree, free_count};
-ghost use Rattle.converter.specs.Maps.{Maps, IsSound, no_entry, entry_at, block_of, IsKept, IsUsed, IsOpenTo, AreUnused, Leaves, Given, empty_maps, with_own, with_loaded, settled, own_of};
+ghost use Rattle.converter.specs.Maps.{Maps, IsSound, no_entry, entry_at, block_of, IsKept, IsUsed};
+ghost use Rattle.converter.specs.Maps.{IsOpenTo, AreUnused, Leaves, Given, empty_maps, with_own};
+ghost use Rattle.converter.specs.Maps.{with_loaded, settled, own_of};
 ghost use Rattle.mdb_bytes.specs.ConverterPages.{converter_entry_fits};
 ghost use Rattle.converter.specs.Tree.{Took, IsSameLeaf};
 ghost use Rattle.converter.specs.Loads.{IsOff, IsLoading};
@@ -17,9 +31,9 @@ use std::alloc::Global;
 use std::marker::Model;
 use std::mem;
 
-/// The map from pages to blocks, as it is now, as it was at the last savepoint, and as it was frozen
-/// for one that is being made. It is seen as three lists of entries of one length: the root, then the
-/// leaves, then the logical pages. It keeps 52 bytes for each block of the area.
+/// The map from pages to blocks, as it is now, as it was at the last savepoint, and as it was
+/// frozen for one that is being made. It is seen as three lists of entries of one length: the root,
+/// then the leaves, then the logical pages. It keeps 52 bytes for each block of the area.
 #[derive(Drop)]
 pub struct Converter {
     conv: usize,
@@ -100,13 +114,13 @@ impl FrozenMap {
 }
 
 impl Converter {
-    /// All maps are empty. Nothing is kept where memory is wanting.
+    /// All maps are empty. Out of memory, nothing is kept.
     pub fn new(alloc: Global, blocks: u32) -> Result<Converter, Memory>
         requires some { 0 < blocks }
-        requires bound { blocks ≤ 65536 }
+        requires bound { blocks ≤ MOST_BLOCKS }
         ensures { IfOk result (λ m. m ≡ empty_maps blocks (replicate blocks 0)) }
     {
-        let conv = 1 + (blocks as usize + 599) / 600;
+        let conv = 1 + (blocks as usize + (PAGES - 1)) / PAGES;
         let long = conv + blocks as usize;
         let present = empty_list(alloc, long)?;
         let saved = empty_map(alloc, long)?;
@@ -136,7 +150,7 @@ impl Converter {
         if e.block == 0 { None } else { Some(e) }
     }
 
-    /// Gives a page of the present map this block. The block that it had is not given free.
+    /// Gives a page of the present map this block. The block that it had is not freed.
     pub fn set(&mut self, page: u32, entry: ConverterEntry)
         requires below { page < length self.old.owner }
         requires block { (2 ≤ entry.block) × (entry.block < length self.old.owner) }
@@ -154,10 +168,12 @@ impl Converter {
         self.frozen.behind[page as usize / PAGES] = true;
     }
 
-    /// Takes its block from a page of the present map. The block is not given free.
+    /// Takes its block from a page of the present map. The block is not freed.
     pub fn clear(&mut self, page: u32)
         requires { page < length self.old.owner }
-        ensures { self.new ≡ record self.old { present = slice_set self.old.present (self.old.conv + page) no_entry } }
+        ensures { self.new
+            ≡ record self.old
+            { present = slice_set self.old.present (self.old.conv + page) no_entry } }
     {
         let q = self.conv + page as usize;
         self.present[q] = NO_ENTRY;
@@ -175,8 +191,8 @@ impl Converter {
         }
     }
 
-    /// Whether the last savepoint's or the frozen map has the block, for a page or for a page of the
-    /// converter.
+    /// Whether the last savepoint's or the frozen map has the block, for a page or for a page of
+    /// the converter.
     pub fn kept(&self, b: u32) -> bool
         requires some { 0 < b }
         requires below { b < length self.now.owner }
@@ -216,14 +232,16 @@ impl Converter {
         FrozenMap { savepoint }
     }
 
-    /// Makes the frozen map that of the last savepoint. It gives free what the former one alone had,
+    /// Makes the frozen map that of the last savepoint. It frees what the former one alone had,
     /// but for blocks with a mark.
     pub fn settle(&mut self, free: &mut FreeBlocks, marks: &Marks, map: FrozenMap)
         requires frozen { self.old.frozen_at ≡ Some map.savepoint }
-        requires area { (length free.old ≡ length self.old.owner) × (length marks.now ≡ length self.old.owner) }
+        requires area { (length free.old ≡ length self.old.owner)
+            × (length marks.now ≡ length self.old.owner) }
         requires unused { AreUnused self.old free.old }
         ensures maps { self.new ≡ settled self.old }
-        ensures given { Given (Leaves self.old marks.now) 0 (length self.old.saved) free.old free.new }
+        ensures given { Given (Leaves self.old marks.now) 0 (length self.old.saved) free.old
+            free.new }
     {
         let FrozenMap { savepoint: _ } = map;
         give_left(
@@ -288,6 +306,7 @@ impl Converter {
         ensures below { result < length self.now.owner }
         ensures sound { IsSound self.now }
     {
+        // Opens the invariant of the maps.
         let _owner = self.owner.len();
         entry_of(self.frozen_entries(), self.conv + page as usize).block
     }
@@ -299,14 +318,16 @@ impl Converter {
         self.frozen_at.is_some()
     }
 
-    /// The entry of a place in the map of the last savepoint: the root has place 0, a leaf its number
-    /// and one, and page 0 the place behind the last leaf. It has block 0 where there is no page.
+    /// The entry of a place in the map of the last savepoint: the root has place 0, a leaf its
+    /// number and one, and page 0 the place after the last leaf. It has block 0 where there is no
+    /// page.
     pub fn saved_entry(&self, place: u32) -> ConverterEntry
         requires { place < self.now.conv + length self.now.owner }
         ensures entry { result ≡ entry_at self.now.saved place }
         ensures below { result.block < length self.now.owner }
         ensures sound { IsSound self.now }
     {
+        // Opens the invariant of the maps.
         let _owner = self.owner.len();
         entry_of(&self.saved.entries, place as usize)
     }
@@ -348,9 +369,10 @@ impl Converter {
     }
 
     // The entries of a leaf of the frozen map.
-    pub(crate) fn frozen_run(&self, leaf: u32) -> [ConverterEntry; 600]
+    pub(crate) fn frozen_run(&self, leaf: u32) -> [ConverterEntry; PAGES]
         requires { leaf + 1 < self.now.conv }
-        ensures entries { (k : ℕ) → k < 600 → entry_at result k ≡ entry_at self.now.frozen (self.now.conv + 600 * leaf + k) }
+        ensures entries { (k : ℕ) → k < 600
+            → entry_at result k ≡ entry_at self.now.frozen (self.now.conv + 600 * leaf + k) }
         ensures long { length result ≡ 600 }
         ensures sound { IsSound self.now }
     {
@@ -366,14 +388,17 @@ impl Converter {
         entry_of(self.frozen_entries(), q as usize).block
     }
 
-    // The block of one of the converter's own pages, in the frozen map or in that of the last savepoint.
+    // The block of one of the converter's own pages, in the frozen map or in that of the last
+    // savepoint.
     pub(crate) fn own_block(&self, q: u32) -> u32
         requires { q < self.now.conv }
         ensures block { result ≡ block_of self.now.present q }
-        ensures own { entry_at self.now.present q ≡ entry_at (own_of self.now.frozen_at self.now.saved self.now.frozen) q }
+        ensures own { entry_at self.now.present q
+            ≡ entry_at (own_of self.now.frozen_at self.now.saved self.now.frozen) q }
         ensures below { result < length self.now.owner }
         ensures sound { IsSound self.now }
     {
+        // Opens the invariant of the maps.
         let _owner = self.owner.len();
         entry_of(&self.present, q as usize).block
     }

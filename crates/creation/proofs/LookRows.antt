@@ -1,5 +1,5 @@
--- Worked rows of what an image shows: backups that are pending.
-use Rattle.std.proofs.Common.{◌≡◌, refl, ℕ, List, [], ◌∷◌, ◌++◌, codes, Some, replicate}
+-- Worked rows of what an image shows: backups that are pending, and what no image stands for.
+use Rattle.std.proofs.Common.{◌≡◌, refl, ℕ, ◌≤◌, List, [], ◌∷◌, ◌++◌, codes, Some, None, replicate, arith}
 use Rattle.mdb_model.specs.declared.change.Change.TheVariants.{Put}
 use Rattle.mdb_model.specs.declared.change.Commit.{Commit}
 use Rattle.mdb_model.specs.declared.name.Name.{Name}
@@ -11,7 +11,10 @@ use Rattle.mdb_bytes.specs.Firsts.{first_restart, first_log_info}
 use Rattle.mdb_bytes.specs.Groups.{group_fields}
 use Rattle.mdb_bytes.specs.LogReading.{group_of}
 use Rattle.mdb_bytes.specs.WholeBackups.{backup_bytes}
-use Rattle.creation.specs.Looks.{header_of, log_after, saved_in_force, base_in_force}
+use Rattle.mdb_model.specs.Worlds.{World}
+use Rattle.mdb_bytes.specs.declared.restart_record.AreaState.TheVariants.{Normal, RestoreOpen}
+use Rattle.creation.specs.WholeStanding.{AreaIsLost, IsInForm, redo_from}
+use Rattle.creation.specs.Looks.{Look, header_of, log_after, saved_in_force, base_in_force}
 
 abbrev name : Name
 name = record { birth = 7; generation = 1 }
@@ -58,3 +61,27 @@ group_numbered number = spelled (group_fields (record { name = name; number = nu
 two_groups : log_after (with_log (group_numbered 1 ++ (group_numbered 2 ++ replicate 16300 0))) (first_log_info 7 4) name (record { commit = 0; position = 0 }) ≡ Some (one_commit ∷ one_commit ∷ [])
 unfolding spelled decoded number_at read_run group_of
 two_groups = refl
+
+-- Groups are numbered from 1 and have their changes in order: a reader of a medium refuses any other bytes.
+no_group_0 : (to blocks : ℕ) (commits : List Commit) → IsInForm (LogGroups name 0 to commits blocks) → ⊥
+no_group_0 to blocks commits form = omega (arith, form.0)
+
+-- changes of falling keys stand in no group
+not_in_form : IsInForm (LogGroups name 1 1 (record {
+  changes = Put (record { 0 = 1 }) (codes "l") (codes "v") ∷ Put (record { 0 = 1 }) (codes "k") (codes "v") ∷ [];
+} ∷ []) 512) → ⊥
+not_in_form form = let never = form.2.0 in absurd cc
+
+-- no record has the birth or the generation 0, so a recover could not write one for such a name
+no_birth_0 : (l : Look) (info : LogInfo) (w : World) → w.name.birth ≡ 0 → AreaIsLost l info w → ⊥
+no_birth_0 l info w none area = omega (arith, area.has_birth, none)
+
+no_generation_0 : (l : Look) (info : LogInfo) (w : World) → w.name.generation ≡ 0 → AreaIsLost l info w → ⊥
+no_generation_0 l info w none area = omega (arith, area.has_generation, none)
+
+-- the position in the record of an open restore is not where the log is read from
+while_restoring : redo_from RestoreOpen 10 84 ≡ 84
+while_restoring = refl
+
+in_order : redo_from Normal 10 84 ≡ 10
+in_order = refl

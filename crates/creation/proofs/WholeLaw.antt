@@ -175,7 +175,7 @@ module _ (image : Image) (site : Site) (commits : List Commit) (records : HasRec
     sizes = record { limits = records.limits.volumes; blocks = refl; there = records.volumes };
     there = refl;
     in_order = in_order blocks records.limits.volumes.least;
-    rows = record { start = empty; log = commits; in_map = committed_is; in_log = refl; tables = refl; number = refl; same_end = refl };
+    rows = record { start = empty; log = commits; in_map = committed_is; in_log = refl; tables = refl; number = refl; same_number = refl; same_end = refl };
     snapshots = subst (λ es. AllZip (IsSnapshot blocks) es []) (sym (entries-empty nat_cmp)) tt;
     apart = ((own_blocks blocks, tt), tt);
     base = record { in_force = refl; since = tt };
@@ -202,7 +202,7 @@ module _ (image : Image) (site : Site) (commits : List Commit) (records : HasRec
     stage = record {
       records = λ asked. record { restart = refl; log_info = refl };
       backups = λ asked. record { media = refl; saved = refl; base = refl; record_pending = refl; log_pending = refl };
-      generation = λ asked. (refl, refl);
+      generation = λ asked. (refl, refl, refl);
       snapshots = λ asked. refl;
       images = λ asked. record { maps = (all_images_are, tt); media = λ k d lt. absurd (omega (arith, lt, ap length no_media)) };
       changed_pages = λ asked k d lt. absurd (omega (arith, lt, ap length no_media));

@@ -11,7 +11,8 @@ abbrev pub device_count : ℕ
 device_count = 108
 
 abbrev pub device_at : (number : ℕ) → Device
-device_at number = if nat_lt number 8 then Data (number + 1) else if number == 8 then Log else Medium (number - 8)
+device_at number =
+    if nat_lt number 8 then Data (number + 1) else if number == 8 then Log else Medium (number - 8)
 
 -- a crash leaves of the first n of them what a read gives
 abbrev pub SyncedUpTo : (n : ℕ) → Disk → Type 0

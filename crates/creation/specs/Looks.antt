@@ -1,8 +1,10 @@
--- What an image shows: all that is read of it to say which world it stands for. Bytes that are not part of this may be
--- anything: the other slot, blocks of no kept map, the ring behind a closed gate, media that are blank.
+-- What an image shows: all that is read of it to say which world it stands for. Bytes that are not
+-- part of this may be anything: the other slot, blocks of no kept map, the ring behind a closed
+-- gate, media that are blank.
 --     record_in, log_info_in      the restart record and the log info in force
 --     LogPoint      a place in the log
---     base_in_force, saved_in_force      the base savepoint, and up to where the log is saved, with what is pending
+--     base_in_force, saved_in_force      the base savepoint, and up to where the log is saved, with
+--         what is pending
 --     Look, look      what an image shows
 --     IsUnused      no kept map of a look uses a block of a set
 use Rattle.std.specs.Prelude.{◌≡◌, ◌≢◌, ℕ, ◌-◌, ◌*◌, ◌<◌, List, [], Bool, true, false, not, ◌&&◌, ◌==◌, nat_lt, if◌then◌else◌, map, sum, take, Option, Some, None, option_map, option_and_then, unwrap_or}
@@ -57,7 +59,8 @@ log_info_in image = option_and_then log_info_of (in_force image log_slots)
 
 -- the bytes of a medium whose gate is open
 abbrev pub open_medium : Image → ℕ → Option (List ℕ)
-open_medium image medium = if byte_at (image (Medium medium)) slot_len == open_gate then image (Medium medium) else None
+open_medium image medium =
+    if byte_at (image (Medium medium)) slot_len == open_gate then image (Medium medium) else None
 
 -- the header that bytes spell
 unfoldable pub header_of : List ℕ → Option MediumHeader
@@ -65,7 +68,9 @@ header_of bytes = decoded medium_header_format bytes
 
 -- the header on a medium that is named, where 0 names none
 abbrev pub header_on : (ℕ → Option (List ℕ)) → ℕ → Option MediumHeader
-header_on media medium = if medium == 0 then None else option_and_then (λ bytes. header_of (take slot_len bytes)) (media medium)
+header_on media medium =
+    if medium == 0 then None else option_and_then (λ bytes. header_of (take slot_len bytes))
+    (media medium)
 
 -- Pending backups
 
@@ -78,20 +83,24 @@ is_of_log OfLog = true
 abbrev pub data_backup_ended : RestartRecord → (ℕ → Option (List ℕ)) → Bool
 data_backup_ended r media =
     unwrap_or
-    (option_map (λ h. not (is_of_log h.kind) && same_name h.name r.name && h.savepoint == r.pending_savepoint) (header_on media r.pending_medium))
+    (option_map (λ h. not (is_of_log h.kind) && same_name h.name r.name
+    && h.savepoint == r.pending_savepoint) (header_on media r.pending_medium))
     false
 
 -- the log backup that a log info names as pending has ended, as the medium shows
 abbrev pub log_backup_ended : LogInfo → (ℕ → Option (List ℕ)) → Bool
 log_backup_ended info media =
     unwrap_or
-    (option_map (λ h. is_of_log h.kind && same_name h.name info.name && h.last == info.pending_commit && h.end_position == info.pending_position) (header_on media info.pending_medium))
+    (option_map (λ h. is_of_log h.kind && same_name h.name info.name
+    && h.last == info.pending_commit
+    && h.end_position == info.pending_position) (header_on media info.pending_medium))
     false
 
 -- the savepoint of the last data backup that has ended
 abbrev pub base_in_force : RestartRecord → (ℕ → Option (List ℕ)) → Option ℕ
 base_in_force r media =
-    if data_backup_ended r media then Some r.pending_savepoint else (if r.base == 0 then None else Some r.base)
+    if data_backup_ended r media then Some r.pending_savepoint
+    else (if r.base == 0 then None else Some r.base)
 
 -- behind a commit, and the position there
 pub record LogPoint : Type 0 where
@@ -109,8 +118,8 @@ point_of_info info media =
 abbrev pub redo_point : RestartRecord → LogPoint
 redo_point r = record { commit = r.commit; position = r.position }
 
--- Up to where the log is saved. A log info of an earlier generation than the record tells nothing: all up to the
--- record is saved then.
+-- Up to where the log is saved. A log info of an earlier generation than the record tells nothing:
+-- all up to the record is saved then.
 abbrev pub saved_in_force : Option RestartRecord → Option LogInfo → (ℕ → Option (List ℕ)) → LogPoint
 saved_in_force restart None media = record { commit = 0; position = 0 }
 saved_in_force None (Some info) media = point_of_info info media
@@ -159,16 +168,20 @@ ring_size info = (info.pages - 2) * page_len
 
 -- the commits of a database in the log, from a point on
 abbrev pub log_after : Image → LogInfo → Name → LogPoint → Option (List Commit)
-log_after image info name point = log_from (ring_byte (ring_size info) image) name (ring_size info) point.position point.commit
+log_after image info name point =
+    log_from (ring_byte (ring_size info) image) name (ring_size info) point.position point.commit
 
 -- the commits from the record's position on
 abbrev pub redo_after : Image → Option LogInfo → Option RestartRecord → Option (List Commit)
-redo_after image info restart = option_and_then (λ info. option_and_then (λ r. log_after image info r.name (redo_point r)) restart) info
+redo_after image info restart =
+    option_and_then (λ info. option_and_then (λ r. log_after image info r.name (redo_point r))
+    restart) info
 
 -- the commits from the saved position on
 abbrev pub saved_after : Image → Option LogInfo → Option RestartRecord → Option (List Commit)
 saved_after image info restart =
-    option_and_then (λ found. log_after image found (name_in_force restart found) (saved_in_force restart info (open_medium image))) info
+    option_and_then (λ found. log_after image found (name_in_force restart found)
+    (saved_in_force restart info (open_medium image))) info
 
 -- what an image shows
 abbrev pub look : Image → Look
@@ -195,9 +208,12 @@ saved_point l = saved_in_force l.restart l.log_info l.media
 -- no block of the set serves the map, whose blocks are of the area
 abbrev pub IsUnusedBy : (set : ℕ → Type 0) → (blocks : ℕ) → KeptMap → Type 0
 IsUnusedBy set blocks kept =
-    AllByRecursion (λ block. (block < blocks) × (set block → ⊥)) kept.converter × AllByRecursion (λ e. (e.1.block < blocks) × (set e.1.block → ⊥)) kept.places
+    AllByRecursion (λ block. (block < blocks) × (set block → ⊥)) kept.converter
+    × AllByRecursion (λ e. (e.1.block < blocks) × (set e.1.block → ⊥)) kept.places
 
 -- no block of the set serves a kept map, and no kept map has a converter out of its form
 pub record IsUnused (l : Look) (r : RestartRecord) (set : ℕ → Type 0) : Type 0 where
-  pub rec : r.root ≢ 0 → (kept : KeptMap) × (l.kept ≡ Some kept) × IsUnusedBy set (sum r.volumes.items) kept
-  pub snapshots : AllByRecursion (λ e. (kept : KeptMap) × (e.1 ≡ Some kept) × IsUnusedBy set (sum r.volumes.items) kept) l.snapshots
+  pub rec : r.root ≢ 0 → (kept : KeptMap) × (l.kept ≡ Some kept)
+      × IsUnusedBy set (sum r.volumes.items) kept
+  pub snapshots : AllByRecursion (λ e. (kept : KeptMap) × (e.1 ≡ Some kept)
+      × IsUnusedBy set (sum r.volumes.items) kept) l.snapshots

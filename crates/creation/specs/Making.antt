@@ -17,10 +17,12 @@ use Rattle.creation.specs.Standing.{Site, log_slots}
 abbrev pub Each : Disk → (Image → Type 0) → Type 0
 Each disk holds = (image : Image) → disk.may_leave disk.now image → holds image
 
--- The log volume is there, where it is made, and the first n data volumes, with zero bytes. No other device is.
+-- The log volume is there, where it is made, and the first n data volumes, with zero bytes. No
+-- other device is.
 pub record IsFresh (site : Site) (n : ℕ) (image : Image) : Type 0 where
   pub log : image Log ≡ Some (replicate (8192 * site.log_pages) 0)
-  pub volumes : (i : ℕ) → i < n → image (Data (i + 1)) ≡ Some (replicate (8192 * get_or site.volumes i 0) 0)
+  pub volumes : (i : ℕ) → i < n → image (Data (i + 1))
+      ≡ Some (replicate (8192 * get_or site.volumes i 0) 0)
   pub absent : (i : ℕ) → n ≤ i → i < 8 → image (Data (i + 1)) ≡ None
   pub media : (medium : ℕ) → 1 ≤ medium → medium ≤ 99 → image (Medium medium) ≡ None
 
@@ -32,13 +34,16 @@ pub record IsEmpty (image : Image) : Type 0 where
 
 -- the devices have their sizes, and no medium is there
 pub record HasSizes (site : Site) (image : Image) : Type 0 where
-  pub volumes : (i : ℕ) → i < length site.volumes → size_of (image (Data (i + 1))) ≡ Some (get_or site.volumes i 0 * 8192)
+  pub volumes : (i : ℕ) → i < length site.volumes
+      → size_of (image (Data (i + 1))) ≡ Some (get_or site.volumes i 0 * 8192)
   pub log : size_of (image Log) ≡ Some (site.log_pages * 8192)
   pub media : (medium : ℕ) → 1 ≤ medium → medium ≤ 99 → image (Medium medium) ≡ None
 
 -- the blocks of the first savepoint are as they are to be
 abbrev pub HasFirstPages : (volumes : List ℕ) → Image → Type 0
-HasFirstPages volumes image = (block : ℕ) → 2 ≤ block → block ≤ first_root_block (sum volumes) → block_at volumes image block ≡ first_block (sum volumes) block
+HasFirstPages volumes image =
+    (block : ℕ) → 2 ≤ block → block ≤ first_root_block (sum volumes)
+    → block_at volumes image block ≡ first_block (sum volumes) block
 
 -- all but the records: the slots of both have zero bytes, and so has the log
 pub record IsWritten (site : Site) (image : Image) : Type 0 where
@@ -51,6 +56,7 @@ pub record IsWritten (site : Site) (image : Image) : Type 0 where
 pub record IsLogged (site : Site) (image : Image) : Type 0 where
   pub sizes : HasSizes site image
   pub log : (k : ℕ) → 16384 ≤ k → byte_at (image Log) k ≡ 0
-  pub log_info : in_force image log_slots ≡ Some (LogBody (first_log_info site.birth site.log_pages))
+  pub log_info : in_force image log_slots
+      ≡ Some (LogBody (first_log_info site.birth site.log_pages))
   pub slots : (k : ℕ) → k < 16384 → byte_at (image (Data 1)) k ≡ 0
   pub pages : HasFirstPages site.volumes image

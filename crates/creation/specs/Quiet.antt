@@ -1,4 +1,4 @@
--- A stretch of calls of which nothing is told but that nothing is said.
+-- A stretch of calls of which is known only that nothing is said.
 --     AnyHow      the devices change somehow
 use Rattle.mdb_model.specs.Images.{Image}
 

@@ -1,5 +1,5 @@
--- When an image stands for a world, as long as rows stand in the log alone: its records and its pages are still those
--- that the creation of a database wrote, and all commits stand in its log.
+-- When an image stands for a world, as long as rows stand in the log alone: its records and its
+-- pages are still those that the creation of a database wrote, and all commits stand in its log.
 --     Made      what a database is named and how large it is
 --     at_rest      a world that is off, of these commits
 --     Site      what a database was created with
@@ -27,7 +27,9 @@ pub record Made : Type 0 where
   pub ring : ℕ
 
 abbrev pub at_rest : Made → List Commit → World
-at_rest made commits = record (created made.name.birth made.blocks made.ring) { name = made.name; history = record no_history { commits = commits } }
+at_rest made commits =
+    record (created made.name.birth made.blocks made.ring)
+    { name = made.name; history = record no_history { commits = commits } }
 
 -- its birth, the blocks of each data volume and the pages of the log volume
 pub record Site : Type 0 where
@@ -39,7 +41,8 @@ abbrev pub ring_of : Site → ℕ
 ring_of site = (site.log_pages - 2) * 8192
 
 abbrev pub made_at : Site → Made
-made_at site = record { name = first_name site.birth; blocks = sum site.volumes; ring = ring_of site }
+made_at site =
+    record { name = first_name site.birth; blocks = sum site.volumes; ring = ring_of site }
 
 -- what the volumes of a data area have: 1 to 8 of at least 64 blocks each, 512 to 65,536 together
 pub record AreVolumes (volumes : List ℕ) : Type 0 where
@@ -57,26 +60,30 @@ pub record IsSite (site : Site) : Type 0 where
   pub least : 4 ≤ site.log_pages
   pub most : site.log_pages ≤ 65536
 
--- the two slots of the restart record, in the first data volume, and those of the log info, in the log volume
+-- the two slots of the restart record, in the first data volume, and those of the log info, in the
+-- log volume
 abbrev pub data_slots : SlotPlace
 data_slots = record { device = Data 1; page = 0 }
 
 abbrev pub log_slots : SlotPlace
 log_slots = record { device = Log; page = 0 }
 
--- The data volumes and the log volume are there with their sizes, and no medium is. The records in force and the blocks
--- of the first savepoint are as the creation wrote them.
+-- The data volumes and the log volume are there with their sizes, and no medium is. The records in
+-- force and the blocks of the first savepoint are as the creation wrote them.
 pub record HasRecords (site : Site) (image : Image) : Type 0 where
   pub limits : IsSite site
-  pub volumes : (i : ℕ) → i < length site.volumes → size_of (image (Data (i + 1))) ≡ Some (get_or site.volumes i 0 * 8192)
+  pub volumes : (i : ℕ) → i < length site.volumes
+      → size_of (image (Data (i + 1))) ≡ Some (get_or site.volumes i 0 * 8192)
   pub log : size_of (image Log) ≡ Some (site.log_pages * 8192)
   pub media : (medium : ℕ) → 1 ≤ medium → medium ≤ 99 → image (Medium medium) ≡ None
   pub restart : in_force image data_slots ≡ Some (Restart (first_restart site.birth site.volumes))
-  pub log_info : in_force image log_slots ≡ Some (LogBody (first_log_info site.birth site.log_pages))
-  pub pages : (block : ℕ) → 2 ≤ block → block ≤ first_root_block (sum site.volumes) → block_at site.volumes image block ≡ first_block (sum site.volumes) block
+  pub log_info : in_force image log_slots
+      ≡ Some (LogBody (first_log_info site.birth site.log_pages))
+  pub pages : (block : ℕ) → 2 ≤ block → block ≤ first_root_block (sum site.volumes)
+      → block_at site.volumes image block ≡ first_block (sum site.volumes) block
 
--- The world is the one of these commits, which stand in the log from its first position on, numbered from 1, and have
--- fewer bytes than the ring.
+-- The world is the one of these commits, which stand in the log from its first position on,
+-- numbered from 1, and have fewer bytes than the ring.
 pub record Stands (image : Image) (w : World) : Type 0 where
   pub site : Site
   pub is : w ≡ at_rest (made_at site) w.history.commits

@@ -1,4 +1,5 @@
--- When an image stands for a world, with any pages, backups and snapshots: by what the image shows, and by nothing else.
+-- When an image stands for a world, with any pages, backups and snapshots: by what the image shows,
+-- and by nothing else.
 --     LookStands      all its parts, each a record
 --     AreaStands      the part on the data area: live, restoring or lost
 --     StageAsks      what an early program asks besides
@@ -20,6 +21,7 @@ use Rattle.mdb_model.specs.Backups.{Backup, CompletePages, ChangedPages, LogGrou
 use Rattle.mdb_model.specs.Worlds.{World, Base, Snapshot, Area, Live, Restoring, Lost}
 use Rattle.mdb_model.specs.Space.{commit_has_room, map_has_room, converter_pages, kept_for_snapshots}
 use Rattle.mdb_model.specs.Steps.{backups_of, newest_number}
+use Rattle.mdb_bytes.specs.declared.restart_record.AreaState.{AreaState}
 use Rattle.mdb_bytes.specs.declared.restart_record.AreaState.TheVariants.{Normal, RestoreOpen}
 use Rattle.mdb_bytes.specs.declared.log_info.LogInfo.{LogInfo}
 use Rattle.mdb_bytes.specs.declared.restart_record.RestartRecord.{RestartRecord}
@@ -27,7 +29,7 @@ use Rattle.mdb_bytes.specs.declared.restart_record.SnapshotEntry.{SnapshotEntry}
 use Rattle.mdb_bytes.specs.Fields.{all_differ}
 use Rattle.mdb_bytes.specs.Parts.{Keeps, page_len}
 use Rattle.mdb_bytes.specs.LogicalPages.{own_number}
-use Rattle.mdb_bytes.specs.Groups.{change_fits}
+use Rattle.mdb_bytes.specs.Groups.{group_fits}
 use Rattle.mdb_bytes.specs.MediumPages.{medium_header_format, most_pages}
 use Rattle.mdb_bytes.specs.WholeBackups.{header_for, backup_bytes}
 use Rattle.mdb_bytes.specs.LogReading.{log_bytes}
@@ -52,28 +54,42 @@ pub record LogFits (l : Look) (info : LogInfo) (w : World) : Type 0 where
 pub record AreaFits (l : Look) (volumes : List ℕ) (w : World) : Type 0 where
   pub limits : AreVolumes volumes
   pub blocks : w.blocks ≡ sum volumes
-  pub there : (i : ℕ) → i < length volumes → l.sizes (Data (i + 1)) ≡ Some (get_or volumes i 0 * page_len)
+  pub there : (i : ℕ) → i < length volumes
+      → l.sizes (Data (i + 1)) ≡ Some (get_or volumes i 0 * page_len)
 
 -- Log
 
--- where the log begins that is still needed: the saved position, or the record's where that is lesser
-abbrev pub needed_from : Look → ℕ
-needed_from l = unwrap_or (option_map (λ r. min r.position (saved_point l).position) l.restart) (saved_point l).position
+-- where a restart reads the log from; while a restore is open it reads from the saved position
+-- alone
+abbrev pub redo_from : AreaState → (position saved : ℕ) → ℕ
+redo_from Normal position saved = position
+redo_from RestoreOpen position saved = saved
 
--- the commits that are not saved stand in the log, and the log that is needed is shorter than the ring
+-- where the log begins that is still needed: the saved position, or the record's where that is
+-- lesser
+abbrev pub needed_from : Look → ℕ
+needed_from l =
+    let saved = (saved_point l).position in
+    unwrap_or (option_map (λ r. min (redo_from r.state r.position saved) saved) l.restart) saved
+
+-- the commits that are not saved stand in the log, and the log that is needed is shorter than the
+-- ring
 pub record LogStands (l : Look) (w : World) : Type 0 where
   pub saved : (saved_point l).commit ≡ w.saved
   pub commits : l.saved_log ≡ Some (commits_above w.history w.saved)
-  pub fits : (saved_point l).position + log_bytes (commits_above w.history w.saved) < needed_from l + w.ring
+  pub fits : (saved_point l).position + log_bytes (commits_above w.history w.saved) < needed_from l
+      + w.ring
 
 -- Maps
 
--- page numbers and blocks are of the area, no block is one of the first two, and each serves one page
+-- page numbers and blocks are of the area, no block is one of the first two, and each serves one
+-- page
 pub record BlocksAreApart (kept : KeptMap) (blocks : ℕ) : Type 0 where
   pub numbers : AllByRecursion (λ e. e.0 < blocks) kept.places
   pub converter : AllByRecursion (λ block. (2 ≤ block) × (block < blocks)) kept.converter
   pub placed : AllByRecursion (λ e. (2 ≤ e.1.block) × (e.1.block < blocks)) kept.places
-  pub once : IsTrue (all_differ (λ a b. a == b) (kept.converter ++ map (λ e. e.1.block) kept.places))
+  pub once : IsTrue (all_differ (λ a b. a == b) (kept.converter
+      ++ map (λ e. e.1.block) kept.places))
 
 -- a kept map has its blocks apart and its pages in order
 pub record MapIsInOrder (kept : KeptMap) (blocks : ℕ) : Type 0 where
@@ -86,10 +102,13 @@ kept_maps l = option_to_list l.kept ++ filter_map (λ e. e.1) l.snapshots
 
 -- of two kept maps: a block with a page of one serves in the other this page or nothing
 pub record ShareNoBlock (a b : KeptMap) : Type 0 where
-  pub pages : AllByRecursion (λ p. AllByRecursion (λ q. p.1.block ≡ q.1.block → p.0 ≡ q.0) b.places) a.places
-  pub converter : AllByRecursion (λ p. AllByRecursion (λ block. p.1.block ≢ block) b.converter) a.places
+  pub pages : AllByRecursion (λ p. AllByRecursion (λ q. p.1.block ≡ q.1.block
+      → p.0 ≡ q.0) b.places) a.places
+  pub converter : AllByRecursion (λ p. AllByRecursion (λ block. p.1.block ≢ block) b.converter)
+      a.places
 
--- the rows of the world: those that the record's map has as committed, and the log's commits after the record
+-- the rows of the world: those that the record's map has as committed, and the log's commits after
+-- the record
 pub record RowsStand (l : Look) (r : RestartRecord) (kept : KeptMap) (w : World) : Type 0 where
   pub start : Tables
   pub log : List Commit
@@ -97,11 +116,16 @@ pub record RowsStand (l : Look) (r : RestartRecord) (kept : KeptMap) (w : World)
   pub in_log : l.redo_log ≡ Some log
   pub tables : with_commits log start ≡ tables_of w.history
   pub number : r.commit + length log ≡ last w.history
-  -- from the record's position and from the saved one the log ends at one place
-  pub same_end : r.position + log_bytes log ≡ (saved_point l).position + log_bytes (commits_above w.history w.saved)
+  -- from the record's position and from the saved one the log ends at one place, after one commit
+  -- number
+  pub same_number : r.commit + length log ≡ (saved_point l).commit
+      + length (commits_above w.history w.saved)
+  pub same_end : r.position + log_bytes log ≡ (saved_point l).position
+      + log_bytes (commits_above w.history w.saved)
 
 -- a snapshot of the world as an entry of the record and a map
-pub record IsSnapshot (blocks : ℕ) (w_entry : ℕ × Snapshot) (l_entry : SnapshotEntry × Option KeptMap) : Type 0 where
+pub record IsSnapshot (blocks : ℕ) (w_entry : ℕ × Snapshot) (l_entry : SnapshotEntry
+    × Option KeptMap) : Type 0 where
   pub kept : KeptMap
   pub there : l_entry.1 ≡ Some kept
   pub number : l_entry.0.number ≡ w_entry.0
@@ -129,39 +153,53 @@ pub record BaseStands (l : Look) (r : RestartRecord) (kept : KeptMap) (w : World
 abbrev pub HaveRoom : Tables → List Commit → (kept blocks : ℕ) → Type 0
 HaveRoom tables [] kept blocks = Unit {0}
 HaveRoom tables (commit ∷ commits) kept blocks =
-    IsTrue (commit_has_room tables commit.changes kept blocks) × HaveRoom (with_changes commit.changes tables) commits kept blocks
+    IsTrue (commit_has_room tables commit.changes kept blocks)
+    × HaveRoom (with_changes commit.changes tables) commits kept blocks
 
 -- how many blocks serve a logical page of a kept map
 abbrev pub blocks_in_use : Look → ℕ
-blocks_in_use l = set.len (set.from_list {R = nat_cmp} (flat_map (λ kept. map (λ e. e.1.block) kept.places) (kept_maps l)))
+blocks_in_use l =
+    set.len (set.from_list {R = nat_cmp}
+    (flat_map (λ kept. map (λ e. e.1.block) kept.places) (kept_maps l)))
 
 -- a restart that has something to undo or redo has room, beside what snapshots keep
 pub record RestartHasRoom (l : Look) (kept : KeptMap) (w : World) : Type 0 where
   pub map : IsTrue (map_has_room reading kept.pages (kept_for_snapshots w) w.blocks)
-  pub log : (start : Tables) (log : List Commit) → committed reading kept.pages ≡ Some start → l.redo_log ≡ Some log → HaveRoom start log (kept_for_snapshots w) w.blocks
+  pub log : (start : Tables) (log : List Commit) → committed reading kept.pages ≡ Some start
+      → l.redo_log ≡ Some log → HaveRoom start log (kept_for_snapshots w) w.blocks
 
 -- each kept map has room, so has a restart, and there are blocks for one more converter
 pub record RoomStands (l : Look) (kept : KeptMap) (w : World) : Type 0 where
   pub maps : AllByRecursion (λ a. IsTrue (map_has_room reading a.pages 0 w.blocks)) (kept_maps l)
-  pub restart : (0 < length (all_images kept.pages)) ⊎ IfSome l.redo_log (λ log. 0 < length log) → RestartHasRoom l kept w
+  pub restart : (0 < length (all_images kept.pages)) ⊎ IfSome l.redo_log (λ log. 0 < length log)
+      → RestartHasRoom l kept w
   pub blocks : 2 + blocks_in_use l + (len w.snapshots + 2) * converter_pages w.blocks ≤ w.blocks
 
 -- no savepoint that is known is later than the record's
 pub record NumbersStand (l : Look) (r : RestartRecord) (w : World) : Type 0 where
   pub base : IfSome (base_in_force r l.media) (λ savepoint. savepoint ≤ r.savepoint)
-  pub stamps : AllByRecursion (λ kept. AllByRecursion (λ e. e.1.stamp ≤ r.savepoint) kept.places) (kept_maps l)
-  pub media : All (λ backup. same_name (name_of backup) w.name ≡ true → newest_number backup ≤ r.savepoint) (backups_of w)
+  pub stamps : AllByRecursion (λ kept. AllByRecursion (λ e. e.1.stamp ≤ r.savepoint) kept.places)
+      (kept_maps l)
+  pub media : All (λ backup. same_name (name_of backup) w.name ≡ true
+      → newest_number backup ≤ r.savepoint) (backups_of w)
 
 -- Media
 
 -- pages of a backup are whole and carry their numbers; groups of a backup are in their form
 abbrev pub IsInForm : Backup → Type 0
-IsInForm (CompletePages name savepoint commit pages blocks) = AllByRecursion (λ e. (own_number e.1.bytes ≡ e.0) × (length e.1.bytes ≡ page_len)) (entries pages)
-IsInForm (ChangedPages name savepoint base commit changed live blocks) = AllByRecursion (λ e. (own_number e.1.bytes ≡ e.0) × (length e.1.bytes ≡ page_len)) (entries changed)
+IsInForm (CompletePages name savepoint commit pages blocks) =
+    AllByRecursion (λ e. (own_number e.1.bytes ≡ e.0)
+    × (length e.1.bytes ≡ page_len)) (entries pages)
+IsInForm (ChangedPages name savepoint base commit changed live blocks) =
+    AllByRecursion (λ e. (own_number e.1.bytes ≡ e.0)
+    × (length e.1.bytes ≡ page_len)) (entries changed)
 IsInForm (LogGroups name from to commits blocks) =
-    (length commits + from ≡ to + 1) × AllByRecursion (λ commit. IsTrue (list_all change_fits commit.changes)) commits
+    (1 ≤ from) × (length commits + from ≡ to + 1)
+    × AllByRecursion (λ commit. IsTrue (group_fits
+    (record { name = name; number = from; changes = commit.changes }))) commits
 
--- the bytes of a medium begin with those of the backup. Where in the log a log backup ends is no part of the world
+-- the bytes of a medium begin with those of the backup. Where in the log a log backup ends is no
+-- part of the world
 pub record Holds (bytes : List ℕ) (backup : Backup) : Type 0 where
   pub end : ℕ
   pub rest : List ℕ
@@ -175,12 +213,14 @@ pub record MediumStands (l : Look) (number : ℕ) (medium : Medium) : Type 0 whe
   pub least : 2 ≤ medium.pages
   pub most : medium.pages ≤ most_pages
   pub blank : medium.holds ≡ None → l.media number ≡ None
-  pub holds : (backup : Backup) → medium.holds ≡ Some backup → (bytes : List ℕ) × (l.media number ≡ Some bytes) × Holds bytes backup
+  pub holds : (backup : Backup) → medium.holds ≡ Some backup
+      → (bytes : List ℕ) × (l.media number ≡ Some bytes) × Holds bytes backup
 
 -- the media 1 to 99 are those of the world
 pub record MediaStand (l : Look) (w : World) : Type 0 where
   pub numbers : (number : ℕ) → IsSome (get w.media number) → (1 ≤ number) × (number ≤ 99)
-  pub each : (number : ℕ) → 1 ≤ number → number ≤ 99 → MatchOption (get w.media number) (l.sizes (OnMedium number) ≡ None) (MediumStands l number)
+  pub each : (number : ℕ) → 1 ≤ number → number ≤ 99
+      → MatchOption (get w.media number) (l.sizes (OnMedium number) ≡ None) (MediumStands l number)
 
 -- The area
 
@@ -210,14 +250,16 @@ pub record AreaIsRestoring (l : Look) (w : World) : Type 0 where
   pub sizes : AreaFits l rec.volumes.items w
   pub map : rec.root ≢ 0 → (kept : KeptMap) × (l.kept ≡ Some kept) × MapIsInOrder kept w.blocks
 
--- No record can be read. The volumes are those that are found from the first one on, up to one that is not there, and
--- the name is that of the log info
+-- No record can be read. The volumes are those that are found from the first one on, up to one that
+-- is not there, and the name is that of the log info, and one that a record can have
 pub record AreaIsLost (l : Look) (info : LogInfo) (w : World) : Type 0 where
   pub volumes : List ℕ
   pub no_record : l.restart ≡ None
   pub sizes : AreaFits l volumes w
   pub no_more : length volumes < 8 → l.sizes (Data (length volumes + 1)) ≡ None
   pub name : info.name ≡ w.name
+  pub has_birth : 1 ≤ w.name.birth
+  pub has_generation : 1 ≤ w.name.generation
 
 -- the data area is as the world has it
 abbrev pub AreaStands : Area → Look → LogInfo → World → Type 0
@@ -262,9 +304,11 @@ pub record StageAsks (l : Look) (w : World) : Type 0 where
   pub records : IsTrue first_records → HasFirstRecords l w
   pub backups : IsTrue no_backups → HasNoBackups l w
   pub generation : IsTrue one_generation → (w.area ≡ Live) × (w.name.generation ≡ 1)
+      × IfSome l.log_info (λ info. info.name.generation ≡ 1)
   pub snapshots : IsTrue no_snapshots → w.snapshots ≡ empty
   pub images : IsTrue no_undo → HasNoImages l w
-  pub changed_pages : IsTrue no_changed_pages → All (λ backup. is_changed_pages backup ≡ false) (backups_of w)
+  pub changed_pages : IsTrue no_changed_pages
+      → All (λ backup. is_changed_pages backup ≡ false) (backups_of w)
 
 -- All of it
 
@@ -279,7 +323,8 @@ pub record LookStands (l : Look) (w : World) : Type 0 where
   pub log : LogStands l w
   pub area : AreaStands w.area l info w
   pub media : MediaStand l w
-  pub room : IsTrue asks_for_room → HaveRoom (tables_of (cut w.history w.saved)) (commits_above w.history w.saved) 0 w.blocks
+  pub room : IsTrue asks_for_room → HaveRoom (tables_of (cut w.history w.saved))
+      (commits_above w.history w.saved) 0 w.blocks
   pub stage : StageAsks l w
 
 -- the image stands for the world

@@ -15,8 +15,11 @@ use mdb_host::{Device, Failed, Host};
 
 /// Whether a device that a database may have is there.
 pub(crate) fn any_there<H: Host>(host: &H) -> bool
-    ensures absent { result ≡ false → H.tells → (number : ℕ) → number < device_count → (H.disk host.now).seen (device_at number) ≡ None }
-    ensures there { result ≡ true → H.tells → (number : ℕ) × (number < device_count) × IsThere (H.disk host.now).seen (device_at number) }
+    ensures absent { result ≡ false → H.tells → (number : ℕ) → number < device_count
+        → (H.disk host.now).seen (device_at number) ≡ None }
+    ensures there { result ≡ true → H.tells
+        → (number : ℕ) × (number < device_count)
+        × IsThere (H.disk host.now).seen (device_at number) }
 {
     for number in 0..DEVICES {
         if host.size(device(number)).is_some() {
@@ -29,7 +32,9 @@ pub(crate) fn any_there<H: Host>(host: &H) -> bool
 // Makes the log volume.
 fn make_log<H: Host>(host: &mut H, pages: u32) -> Result<(), Failed>
     requires absent { H.tells → Each (H.disk host.old) IsEmpty }
-    ensures made { OnOk result (H.tells → (birth : ℕ) (volumes : List ℕ) → Each (H.disk host.new) (IsFresh (record { birth = birth; volumes = volumes; log_pages = pages }) 0)) }
+    ensures made { OnOk result (H.tells → (birth : ℕ) (volumes : List ℕ)
+        → Each (H.disk host.new) (IsFresh
+        (record { birth = birth; volumes = volumes; log_pages = pages }) 0)) }
     ensures goes { H.tells → Goes (H.disk host.old) (H.disk host.new) AnyHow }
     ensures cause { HasCause (H.faults host.old) (H.faults host.new) result }
     ensures say_faults { H.say_faults host.new ≡ H.say_faults host.old }
@@ -42,7 +47,8 @@ fn make_volume<H: Host>(host: &mut H, volume: usize, blocks: u32) -> Result<(), 
     requires few { volume < 8 }
     requires absent { H.tells → Each (H.disk host.old) (λ image. image (Data (volume + 1)) ≡ None) }
     ensures made { OnOk result (H.tells → (site : Site) → get_or site.volumes volume 0 ≡ blocks
-        → Each (H.disk host.old) (IsFresh site volume) → Each (H.disk host.new) (IsFresh site (volume + 1))) }
+        → Each (H.disk host.old) (IsFresh site volume)
+        → Each (H.disk host.new) (IsFresh site (volume + 1))) }
     ensures goes { H.tells → Goes (H.disk host.old) (H.disk host.new) AnyHow }
     ensures cause { HasCause (H.faults host.old) (H.faults host.new) result }
     ensures say_faults { H.say_faults host.new ≡ H.say_faults host.old }
@@ -59,7 +65,9 @@ pub(crate) fn make_devices<H: Host>(
 ) -> Result<(), Failed>
     requires absent { H.tells → Each (H.disk host.old) IsEmpty }
     ensures made { OnOk result (H.tells → (birth : ℕ)
-        → Each (H.disk host.new) (IsFresh (record { birth = birth; volumes = volumes.now.items; log_pages = log_pages }) (length volumes.now.items))) }
+        → Each (H.disk host.new) (IsFresh
+        (record { birth = birth; volumes = volumes.now.items; log_pages = log_pages })
+        (length volumes.now.items))) }
     ensures goes { H.tells → Goes (H.disk host.old) (H.disk host.new) AnyHow }
     ensures cause { HasCause (H.faults host.old) (H.faults host.new) result }
     ensures say_faults { H.say_faults host.new ≡ H.say_faults host.old }

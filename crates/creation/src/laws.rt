@@ -1,5 +1,5 @@
-//! What holds of when an image stands for a world. The functions do nothing: their contracts are the
-//! laws.
+//! What holds of when an image stands for a world. The functions do nothing: their contracts are
+//! the laws.
 ghost use Rattle.std.specs.Prelude.{◌≡◌, ℕ, Bool, IsTrue, Some};
 ghost use Rattle.mdb_model.specs.Images.{Image};
 ghost use Rattle.mdb_model.specs.Worlds.{World};
@@ -19,6 +19,9 @@ pub fn narrow_standing_is_whole()
 /// anything.
 pub fn showing_is_enough()
     ensures look { (a b : Image) (w : World) → look a ≡ look b → StandsWhole a w → StandsWhole b w }
-    ensures unused { (old new : Image) (r : RestartRecord) (set : ℕ → Bool) (w : World) → Writes r.volumes.items (λ block. IsTrue (set block)) old new
-        → record_in old ≡ Some r → record_in new ≡ Some r → IsUnused (look old) r (λ block. IsTrue (set block)) → StandsWhole old w → StandsWhole new w }
+    ensures unused { (old new : Image) (r : RestartRecord) (set : ℕ → Bool) (w : World)
+        → Writes r.volumes.items (λ block. IsTrue (set block)) old new
+        → record_in old ≡ Some r → record_in new ≡ Some r
+        → IsUnused (look old) r (λ block. IsTrue (set block)) → StandsWhole old w
+        → StandsWhole new w }
 {}

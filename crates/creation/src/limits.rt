@@ -3,13 +3,7 @@ ghost use Rattle.std.specs.Prelude.{◌≡◌, ◌↔◌, ◌≤◌, length, IsT
 ghost use Rattle.creation.specs.Standing.{AreVolumes, IsSite};
 
 use arrayvec::ArrayVec;
-
-// A birth is below this number.
-const BIRTHS_END: u64 = 1 << 61;
-
-// The most blocks of a data area, and the most pages of a log volume.
-const MOST_PAGES: u32 = 65_536;
-
+use mdb_model::limits::{MOST_BLOCKS, RECORD_NUMBER_END};
 // Whether the data volumes have 64 blocks or more each, and 512 to 65,536 together.
 fn are_volumes(volumes: &[u32]) -> bool
     requires { length volumes.now ≤ 8 }
@@ -17,7 +11,7 @@ fn are_volumes(volumes: &[u32]) -> bool
 {
     let mut blocks = 0;
     for i in 0..volumes.len() {
-        if volumes[i] < 64 || MOST_PAGES - blocks < volumes[i] {
+        if volumes[i] < 64 || MOST_BLOCKS - blocks < volumes[i] {
             return false;
         }
         blocks += volumes[i];
@@ -28,11 +22,12 @@ fn are_volumes(volumes: &[u32]) -> bool
 /// Whether a database may be made with this birth, a log volume of so many pages, and data volumes
 /// of so many blocks.
 pub fn can_create(birth: u64, log_pages: u32, volumes: &ArrayVec<u32, 8>) -> bool
-    ensures { IsTrue result ↔ IsSite (record { birth = birth; volumes = volumes.now.items; log_pages = log_pages }) }
+    ensures { IsTrue result ↔ IsSite (record
+        { birth = birth; volumes = volumes.now.items; log_pages = log_pages }) }
 {
     1 <= birth
-        && birth < BIRTHS_END
+        && birth < RECORD_NUMBER_END
         && 4 <= log_pages
-        && log_pages <= MOST_PAGES
+        && log_pages <= MOST_BLOCKS
         && are_volumes(volumes.as_slice())
 }

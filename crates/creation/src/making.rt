@@ -20,7 +20,7 @@ use volume_disk::Volumes;
 /// Why a database was not made.
 #[derive(Debug, Drop, thiserror::Error)]
 pub enum CreateFault {
-    #[error("memory is wanting")]
+    #[error("out of memory")]
     Memory,
     #[error("a device is there already")]
     Exists,
@@ -35,9 +35,16 @@ fn make_database<H: Host>(
     log_pages: u32,
     volumes: &ArrayVec<u32, 8>,
 ) -> Result<(), Failed>
-    requires site { IsSite (record { birth = birth; volumes = volumes.now.items; log_pages = log_pages }) }
+    requires site { IsSite (record {
+      birth = birth;
+      volumes = volumes.now.items;
+      log_pages =
+          log_pages;
+    }) }
     requires empty { H.tells → Each (H.disk host.old) IsEmpty }
-    ensures made { OnOk result (H.tells → Each (H.disk host.new) (λ image. Stands image (at_rest (made_at (record { birth = birth; volumes = volumes.now.items; log_pages = log_pages })) []))) }
+    ensures made { OnOk result (H.tells → Each (H.disk host.new)
+        (λ image. Stands image (at_rest (made_at
+        (record { birth = birth; volumes = volumes.now.items; log_pages = log_pages })) []))) }
     ensures goes { H.tells → Goes (H.disk host.old) (H.disk host.new) AnyHow }
     ensures cause { HasCause (H.faults host.old) (H.faults host.new) result }
     ensures say_faults { H.say_faults host.new ≡ H.say_faults host.old }
@@ -52,7 +59,7 @@ fn make_database<H: Host>(
 /// Makes a database of this birth: a log volume and data volumes of so many pages of 8,192 bytes,
 /// the pages of its first savepoint, and its records, in this order, each kept before the next. No
 /// memory of the heap is asked for.
-/// After `Failed`, or a crash on the way, devices are there of which nothing is told; they are
+/// After `Failed`, or a crash on the way, devices are there with no promise; they are
 /// removed by hand.
 pub fn create<H: Host>(
     alloc: Global,
@@ -61,17 +68,30 @@ pub fn create<H: Host>(
     log_pages: u32,
     volumes: &ArrayVec<u32, 8>,
 ) -> Result<(), CreateFault>
-    requires site { IsSite (record { birth = birth; volumes = volumes.now.items; log_pages = log_pages }) }
-    ensures done { OnOk result (H.tells → (image : Image) → (H.disk host.new).may_leave (H.disk host.new).now image
-        → Stands image (at_rest (made_at (record { birth = birth; volumes = volumes.now.items; log_pages = log_pages })) [])) }
-    ensures whole { OnOk result (H.tells → (image : Image) → (H.disk host.new).may_leave (H.disk host.new).now image
-        → StandsWhole image (at_rest (made_at (record { birth = birth; volumes = volumes.now.items; log_pages = log_pages })) [])) }
-    ensures there { result ≡ Err CreateFault.Exists → H.tells → (number : ℕ) × (number < device_count) × IsThere (H.disk host.old).seen (device_at number) }
-    ensures absent { result ≢ Err CreateFault.Exists → H.tells → (number : ℕ) → number < device_count → (H.disk host.old).seen (device_at number) ≡ None }
+    requires site { IsSite (record {
+      birth = birth;
+      volumes = volumes.now.items;
+      log_pages =
+          log_pages;
+    }) }
+    ensures done { OnOk result (H.tells → (image : Image)
+        → (H.disk host.new).may_leave (H.disk host.new).now image
+        → Stands image (at_rest (made_at
+        (record { birth = birth; volumes = volumes.now.items; log_pages = log_pages })) [])) }
+    ensures whole { OnOk result (H.tells → (image : Image)
+        → (H.disk host.new).may_leave (H.disk host.new).now image
+        → StandsWhole image (at_rest (made_at
+        (record { birth = birth; volumes = volumes.now.items; log_pages = log_pages })) [])) }
+    ensures there { result ≡ Err CreateFault.Exists → H.tells
+        → (number : ℕ) × (number < device_count)
+        × IsThere (H.disk host.old).seen (device_at number) }
+    ensures absent { result ≢ Err CreateFault.Exists → H.tells → (number : ℕ)
+        → number < device_count → (H.disk host.old).seen (device_at number) ≡ None }
     ensures untouched { result ≡ Err CreateFault.Exists → host.new ≡ host.old }
     ensures ample { result ≢ Err CreateFault.Memory }
     ensures keeps { H.tells → Keeps (H.disk host.old) (H.disk host.new) }
-    ensures quiet { H.tells → (t : ℕ) → (H.disk host.old).now ≤ t → t ≤ (H.disk host.new).now → (H.disk host.new).said t ≡ (H.disk host.old).said (H.disk host.old).now }
+    ensures quiet { H.tells → (t : ℕ) → (H.disk host.old).now ≤ t → t ≤ (H.disk host.new).now
+        → (H.disk host.new).said t ≡ (H.disk host.old).said (H.disk host.old).now }
     ensures later { H.faults host.old ≤ H.faults host.new }
     ensures cause { result ≡ Err CreateFault.Failed → Rose (H.faults host.old) (H.faults host.new) }
     ensures say_faults { H.say_faults host.new ≡ H.say_faults host.old }

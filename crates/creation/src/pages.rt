@@ -1,4 +1,5 @@
-//! The pages of the first savepoint: the catalogue, the open list, and the converter that knows them.
+//! The pages of the first savepoint: the catalogue, the open list, and the converter that knows
+//! them.
 ghost use Rattle.std.specs.Prelude.{◌≡◌, ℕ, ◌+◌, ◌≤◌, ◌<◌, sum, OnOk};
 ghost use Rattle.mdb_model.specs.Causes.{HasCause};
 ghost use Rattle.mdb_host.specs.Disk.{Disk, Goes};
@@ -104,8 +105,10 @@ fn first_page(blocks: u32, block: u32, into: &mut [u8; 8192])
 fn write_blocks<H: Host>(host: &mut H, volumes: &Volumes) -> Result<(), Failed>
     requires area { (512 ≤ sum volumes.now) × (sum volumes.now ≤ 65536) }
     requires there { H.tells → IsArea volumes.now (H.disk host.old).seen }
-    ensures goes { H.tells → Goes (H.disk host.old) (H.disk host.new) (Writes volumes.now (λ block. 2 ≤ block)) }
-    ensures seen { H.tells → Writes volumes.now (λ block. 2 ≤ block) (H.disk host.old).seen (H.disk host.new).seen }
+    ensures goes { H.tells → Goes (H.disk host.old) (H.disk host.new)
+        (Writes volumes.now (λ block. 2 ≤ block)) }
+    ensures seen { H.tells → Writes volumes.now (λ block. 2
+        ≤ block) (H.disk host.old).seen (H.disk host.new).seen }
     ensures pages { OnOk result (H.tells → HasFirstPages volumes.now (H.disk host.new).seen) }
     ensures cause { HasCause (H.faults host.old) (H.faults host.new) result }
     ensures say_faults { H.say_faults host.new ≡ H.say_faults host.old }
@@ -123,7 +126,8 @@ fn write_blocks<H: Host>(host: &mut H, volumes: &Volumes) -> Result<(), Failed>
 pub(crate) fn write_pages<H: Host>(host: &mut H, volumes: &Volumes) -> Result<(), Failed>
     requires area { (512 ≤ sum volumes.now) × (sum volumes.now ≤ 65536) }
     requires there { H.tells → IsArea volumes.now (H.disk host.old).seen }
-    ensures goes { H.tells → Goes (H.disk host.old) (H.disk host.new) (Writes volumes.now (λ block. 2 ≤ block)) }
+    ensures goes { H.tells → Goes (H.disk host.old) (H.disk host.new)
+        (Writes volumes.now (λ block. 2 ≤ block)) }
     ensures pages { OnOk result (H.tells → Each (H.disk host.new) (HasFirstPages volumes.now)) }
     ensures cause { HasCause (H.faults host.old) (H.faults host.new) result }
     ensures say_faults { H.say_faults host.new ≡ H.say_faults host.old }

@@ -80,8 +80,11 @@ fn restart(birth: u64, blocks: u32, volumes: &ArrayVec<u32, 8>) -> RestartRecord
 pub(crate) fn open_log_info<H: Host>(host: &mut H, birth: u64, log_pages: u32) -> Result<(), Failed>
     requires birth { birth < 2 ^ 61 }
     requires within { H.tells → IsWithin (H.disk host.old).seen Log 0 16384 }
-    ensures logged { OnOk result (H.tells → (volumes : List ℕ) → AreVolumes volumes → Each (H.disk host.old) (IsWritten (record { birth = birth; volumes = volumes; log_pages = log_pages }))
-        → Each (H.disk host.new) (IsLogged (record { birth = birth; volumes = volumes; log_pages = log_pages }))) }
+    ensures logged { OnOk result (H.tells → (volumes : List ℕ) → AreVolumes volumes
+        → Each (H.disk host.old) (IsWritten
+        (record { birth = birth; volumes = volumes; log_pages = log_pages }))
+        → Each (H.disk host.new) (IsLogged
+        (record { birth = birth; volumes = volumes; log_pages = log_pages }))) }
     ensures goes { H.tells → Goes (H.disk host.old) (H.disk host.new) AnyHow }
     ensures cause { HasCause (H.faults host.old) (H.faults host.new) result }
     ensures say_faults { H.say_faults host.new ≡ H.say_faults host.old }
@@ -101,9 +104,17 @@ pub(crate) fn open_restart_record<H: Host>(
     requires volumes { AreVolumes volumes.now.items }
     requires blocks { blocks ≡ sum volumes.now.items }
     requires within { H.tells → IsWithin (H.disk host.old).seen (Data 1) 0 16384 }
-    ensures stands { OnOk result (H.tells → (log_pages : ℕ) → IsSite (record { birth = birth; volumes = volumes.now.items; log_pages = log_pages })
-        → Each (H.disk host.old) (IsLogged (record { birth = birth; volumes = volumes.now.items; log_pages = log_pages }))
-        → Each (H.disk host.new) (λ image. Stands image (at_rest (made_at (record { birth = birth; volumes = volumes.now.items; log_pages = log_pages })) []))) }
+    ensures stands { OnOk result (H.tells → (log_pages : ℕ)
+        → IsSite (record { birth = birth; volumes = volumes.now.items; log_pages = log_pages })
+        → Each (H.disk host.old) (IsLogged
+        (record { birth = birth; volumes = volumes.now.items; log_pages = log_pages }))
+        → Each (H.disk host.new) (λ image. Stands image
+        (at_rest (made_at (record {
+          birth = birth;
+          volumes = volumes.now.items;
+          log_pages =
+              log_pages;
+        })) []))) }
     ensures goes { H.tells → Goes (H.disk host.old) (H.disk host.new) AnyHow }
     ensures cause { HasCause (H.faults host.old) (H.faults host.new) result }
     ensures say_faults { H.say_faults host.new ≡ H.say_faults host.old }

@@ -16,3 +16,4 @@ pub mod Kernels
 pub mod Behind
 pub mod Scans
 mod Starts
+pub mod Reaching

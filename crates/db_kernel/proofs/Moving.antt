@@ -400,8 +400,9 @@ module _ (rows : Tables) (ongoing : Ongoing) (made : Made) (end number : ℕ) (w
       commit_none none end =
           goes_on (CommitWork session) (plain NothingToCommit) (remove o.sessions session.0) (line.commit_nothing no_pages made o.commits o.sessions session (counted true none)) (ended end) end.most
 
-      pub commit_starved : ongoing2 ≡ ongoing → Moves ws (Some (CommitWork session)) (refused MemoryWanting) (IsOpen rows2 ongoing2 made end number)
-      commit_starved is = starves (CommitWork session) refl is
+      pub commit_starved : (len (changes_of ongoing session.0) == 0) ≡ false → ongoing2 ≡ ongoing
+          → Moves ws (Some (CommitWork session)) (refused MemoryWanting) (IsOpen rows2 ongoing2 made end number)
+      commit_starved some is = starves (CommitWork session) (ap not (counted false some)) is
 
       -- the changes that a commit has
       abbrev net : List Change

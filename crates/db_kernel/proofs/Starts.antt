@@ -97,10 +97,10 @@ module _ (reading : PageReading) (made : Made) (commits : List Commit) where
   }
 
 -- a call may start on images that stand for one world
-pub starts : (pages_in : Image → PageMap) (savepoint_in commit_in : Image → ℕ) (past_end : Command → Image → Bool) (said : ℕ → List ℕ) (may_leave : ℕ → Image → Type 0) (now : ℕ)
+pub starts : (said : ℕ → List ℕ) (may_leave : ℕ → Image → Type 0) (now : ℕ)
     → (seen : Image) → may_leave now seen → (w : World) → ((image : Image) → may_leave now image → Stands image w)
-    → CanStart no_pages said may_leave Stands pages_in savepoint_in commit_in past_end now ((w, own_age w) ∷ [])
-starts pages_in savepoint_in commit_in past_end said may_leave now seen left w stand =
+    → CanStart no_pages said may_leave Stands now ((w, own_age w) ∷ [])
+starts said may_leave now seen left w stand =
     let s = stand seen left in
     let Fits : World → Type 0 = λ w. IsSound no_pages w × (w.state ≡ Offline) × Agrees no_pages w (own_age w) in
     let fits : Fits w = subst Fits (sym s.is) (is_sound no_pages (made_at s.site) w.history.commits, refl, agrees no_pages (made_at s.site) w.history.commits) in

@@ -3,9 +3,10 @@
 --     start_of      where the log begins, by the records in force
 --     IsDamaged      the bytes of an image break this rule
 --     IsRestoring, IsPastEnd      the record says that a restore is open; a number is past the end of all numbers
+--     past_end_in, IsInReach      the same as a test of a line and an image; neither is so
 --     RefusesInFront, Refuses      the image has what reading its records, and an opening, is refused for
 --     TellsDamage, IsInside      a refusal that tells of the devices has it; a reply that tells nothing of the outside
-use Rattle.std.specs.Prelude.{◌≡◌, ◌≢◌, ◌⊎◌, ℕ, ◌+◌, ◌^◌, ◌<◌, ◌≤◌, nat_lt, nat_le, if◌then◌else◌, List, [], ◌∷◌, length, get_or, sum, take, Bool, ◌||◌, IsTrue, Some, None, Err}
+use Rattle.std.specs.Prelude.{◌≡◌, ◌≢◌, ◌⊎◌, ℕ, ◌+◌, ◌^◌, ◌<◌, ◌≤◌, nat_lt, nat_le, if◌then◌else◌, List, [], ◌∷◌, length, get_or, sum, take, Bool, false, ◌||◌, IsTrue, Option, Some, None, Err}
 use Rattle.std.specs.List.{list_any}
 use Rattle.mdb_model.specs.declared.fault.Damage.{Damage}
 use Rattle.mdb_model.specs.declared.fault.Device.{Device}
@@ -17,13 +18,16 @@ use Rattle.mdb_model.specs.declared.script.Refusal.{Refusal}
 use Rattle.mdb_model.specs.declared.script.Refusal.TheVariants.{Damaged as ToldDamaged, DeviceFailed, MemoryWanting, RestoreOpen as ToldRestoreOpen, NumberEnd}
 use Rattle.mdb_model.specs.declared.script.Reply.{Reply}
 use Rattle.mdb_model.specs.declared.script.Reply.TheVariants.{Refused}
+use Rattle.mdb_model.specs.declared.script.Command.{Command}
+use Rattle.mdb_model.specs.declared.script.Command.TheVariants.{DbAdmin, DbOnline}
 use Rattle.mdb_model.specs.Images.{Image}
-use Rattle.mdb_host.specs.Disk.{pages_of}
+use Rattle.mdb_host.specs.Disk.{Disk, pages_of}
 use Rattle.mdb_bytes.specs.declared.log_info.LogInfo.{LogInfo}
-use Rattle.mdb_bytes.specs.declared.restart_record.AreaState.TheVariants.{RestoreOpen}
+use Rattle.mdb_bytes.specs.declared.restart_record.AreaState.TheVariants.{Normal, RestoreOpen}
 use Rattle.mdb_bytes.specs.declared.restart_record.RestartRecord.{RestartRecord}
 use Rattle.mdb_bytes.specs.declared.restart_record.SnapshotEntry.{SnapshotEntry}
 use Rattle.mdb_bytes.specs.Rings.{ring_byte}
+use Rattle.gate_slots.specs.declared.body.SlotBody.{SlotBody}
 use Rattle.gate_slots.specs.declared.body.SlotBody.TheVariants.{Restart, Log as LogBody}
 use Rattle.gate_slots.specs.Slots.{in_force}
 use Rattle.redo_ring.specs.declared.open.LogStart.{LogStart}
@@ -137,6 +141,34 @@ is_past_end restart info = is_past (restart_numbers restart) || (has_past_snapsh
 -- a number in the records is 2^61 or more
 abbrev pub IsPastEnd : Image → Type 0
 IsPastEnd image = (restart : RestartRecord) × HasRestart image restart × ((info : LogInfo) × HasLogInfo image info × IsTrue (is_past_end restart info))
+
+-- the same as a test of the records in force
+abbrev pub are_past_end : Option SlotBody → Option SlotBody → Bool
+are_past_end (Some (Restart restart)) (Some (LogBody info)) = is_past_end restart info
+are_past_end _ _ = false
+
+-- whether a number that the line reads is past the end: the lines that open a database read its records
+abbrev pub past_end_in : Command → Image → Bool
+past_end_in line image = are_past_end (in_force image data_slots) (in_force image log_slots)
+
+-- the record in force is that of a database in order, and no number of the records is past the end
+pub record IsInReach (image : Image) : Type 0 where
+  pub restart : RestartRecord
+  pub has_restart : HasRestart image restart
+  pub info : LogInfo
+  pub has_info : HasLogInfo image info
+  pub normal : restart.state ≡ Normal
+  pub low : is_past_end restart info ≡ false
+
+-- each image that a crash now may leave has P
+abbrev pub EachLeft : Disk → (Image → Type 0) → Type 0
+EachLeft disk P = (image : Image) → disk.may_leave disk.now image → P image
+
+-- the lines that open a database
+abbrev pub IsOpener : Command → Type 0
+IsOpener DbAdmin = Unit {0}
+IsOpener DbOnline = Unit {0}
+IsOpener _ = ⊥
 
 -- the image has what reading its records is refused for; a failed device is not seen in it
 abbrev pub RefusesInFront : Image → Refusal → Type 0

@@ -10,3 +10,4 @@ pub mod Damages
 pub mod Reading
 pub mod Access
 pub mod Starting
+pub mod Refusing

@@ -3,14 +3,15 @@
 --     IsAreaSize      how many blocks the volumes of the record have together
 --     IsLowStart      where a log begins
 --     IsFound      what the records say
-use Rattle.std.specs.Prelude.{◌≡◌, ℕ, ◌+◌, ◌*◌, ◌^◌, ◌<◌, ◌≤◌, get_or, sum, Some}
+use Rattle.std.specs.Prelude.{◌≡◌, ℕ, ◌+◌, ◌*◌, ◌^◌, ◌<◌, ◌≤◌, get_or, sum, false, Some}
 use Rattle.mdb_model.specs.declared.fault.Device.TheVariants.{Data}
 use Rattle.mdb_model.specs.Images.{Image, size_of}
+use Rattle.mdb_bytes.specs.declared.restart_record.AreaState.TheVariants.{Normal}
 use Rattle.mdb_bytes.specs.declared.log_info.LogInfo.{LogInfo}
 use Rattle.mdb_bytes.specs.declared.restart_record.RestartRecord.{RestartRecord}
 use Rattle.redo_ring.specs.declared.open.LogStart.{LogStart}
 use Rattle.db_kernel.specs.declared.opening.Found.{Found}
-use Rattle.db_kernel.specs.Damages.{HasRestart, HasLogInfo, start_of}
+use Rattle.db_kernel.specs.Damages.{HasRestart, HasLogInfo, start_of, is_past_end}
 
 -- a data volume has the pages that the record says, and no fewer than a volume may have
 pub record VolumeFits (restart : RestartRecord) (volume : ℕ) (image : Image) : Type 0 where
@@ -41,3 +42,6 @@ pub record IsFound (found : Found) (image : Image) : Type 0 where
   pub has_info : HasLogInfo image info
   pub start : found.start ≡ start_of restart info
   pub blocks : found.blocks ≡ sum restart.volumes.items
+  -- no restore is open, and no number is past the end
+  pub normal : restart.state ≡ Normal
+  pub low : is_past_end restart info ≡ false

@@ -24,6 +24,7 @@ ghost use Rattle.db_kernel.specs.Committing.{CommitDoes};
 ghost use Rattle.db_kernel.specs.Damages.{IsInside};
 ghost use Rattle.db_kernel.specs.declared.database.Access.TheVariants.{Admin};
 ghost use Rattle.db_kernel.specs.Kept.{IsWholeLog, HoldsAll, IsAt, IsAtRest, FitsOpen};
+ghost use Rattle.db_kernel.specs.Refusing.{IsRefusal, Stays};
 ghost use Rattle.db_kernel.specs.Sessions.{HasKeys, scan_answer, seen_rows};
 ghost use Rattle.creation.specs.Standing.{Stands};
 ghost use Rattle.db_kernel.specs.Stretch.{Stand};
@@ -76,6 +77,7 @@ impl Database {
         ensures ring { self.new.ring ≡ self.old.ring }
         ensures moves { (ws : List World) → FitsOpen self.old ws → Moves ws (Some (GetRow session table key.now)) (plain result) (FitsOpen self.new) }
         ensures inside { IsInside result }
+        ensures refused { IsRefusal result → Stays self.old self.new }
     {
         match self.access {
             Access::Admin => Reply::Refused(Refusal::WrongState(State::Admin)),
@@ -90,6 +92,7 @@ impl Database {
         ensures ring { self.new.ring ≡ self.old.ring }
         ensures moves { (ws : List World) → FitsOpen self.old ws → Moves ws (Some (PutRow session table key.now value.now)) (plain result) (FitsOpen self.new) }
         ensures inside { IsInside result }
+        ensures refused { IsRefusal result → Stays self.old self.new }
     {
         match self.access {
             Access::Admin => Reply::Refused(Refusal::WrongState(State::Admin)),
@@ -104,6 +107,7 @@ impl Database {
         ensures ring { self.new.ring ≡ self.old.ring }
         ensures moves { (ws : List World) → FitsOpen self.old ws → Moves ws (Some (DelRow session table key.now)) (plain result) (FitsOpen self.new) }
         ensures inside { IsInside result }
+        ensures refused { IsRefusal result → Stays self.old self.new }
     {
         match self.access {
             Access::Admin => Reply::Refused(Refusal::WrongState(State::Admin)),
@@ -117,6 +121,7 @@ impl Database {
         ensures ring { self.new.ring ≡ self.old.ring }
         ensures moves { (ws : List World) → FitsOpen self.old ws → Moves ws (Some (RollbackWork session)) (plain result) (FitsOpen self.new) }
         ensures inside { IsInside result }
+        ensures refused { IsRefusal result → Stays self.old self.new }
     {
         match self.access {
             Access::Admin => Reply::Refused(Refusal::WrongState(State::Admin)),
@@ -133,6 +138,7 @@ impl Database {
         ensures keyed { (ws : List World) → FitsOpen self.old ws → HasKeys (seen_rows self.new.rows.rows self.new.transactions session.0) }
         ensures few { length (rows_of (seen_rows self.new.rows.rows self.new.transactions session.0) table.0) < 2 ^ 64 }
         ensures inside { IsInside result }
+        ensures refused { IsRefusal result → Stays self.old self.new }
     {
         // A scan has no more rows than these, so they can be counted.
         let _most = self.rows.len() + self.transactions.changes(session).len();
@@ -156,6 +162,7 @@ impl Database {
             → CommitDoes (H.disk host.old) (H.disk host.new) ws session (FitsOpen self.new) result }
         ensures cause { HasCause (H.faults host.old) (H.faults host.new) result }
         ensures inside { IfOk result IsInside }
+        ensures refused { IfOk result (λ reply. IsRefusal reply → Stays self.old self.new) }
         ensures say_faults { H.say_faults host.new ≡ H.say_faults host.old }
     {
         match self.access {
@@ -170,6 +177,7 @@ impl Database {
         ensures ring { self.new.ring ≡ self.old.ring }
         ensures moves { (ws : List World) → FitsOpen self.old ws → Moves ws (Some DbAdmin) (plain result) (FitsOpen self.new) }
         ensures inside { IsInside result }
+        ensures refused { IsRefusal result → Stays self.old self.new }
     {
         match self.access {
             Access::Admin => Reply::Refused(Refusal::WrongState(State::Admin)),
@@ -185,6 +193,7 @@ impl Database {
         ensures ring { self.new.ring ≡ self.old.ring }
         ensures moves { (ws : List World) → FitsOpen self.old ws → Moves ws (Some DbOnline) (plain result) (FitsOpen self.new) }
         ensures inside { IsInside result }
+        ensures refused { IsRefusal result → Stays self.old self.new }
     {
         match self.access {
             Access::Online => Reply::Refused(Refusal::WrongState(State::Online)),
@@ -204,6 +213,7 @@ impl Database {
         ensures access { self.new.access ≡ self.old.access }
         ensures moves { (ws : List World) → IsAt self.old ws → Moves ws (Some (GetRow session table key.now)) (plain result) (IsAt self.new) }
         ensures inside { IsInside result }
+        ensures refused { IsRefusal result → Stays self.old self.new }
     {
         let mut value = ValueBuf::new();
         let found = self
@@ -220,6 +230,7 @@ impl Database {
         ensures access { self.new.access ≡ self.old.access }
         ensures moves { (ws : List World) → IsAt self.old ws → Moves ws (Some (PutRow session table key.now value.now)) (plain result) (IsAt self.new) }
         ensures inside { IsInside result }
+        ensures refused { IsRefusal result → Stays self.old self.new }
     {
         let done = self
             .transactions
@@ -235,6 +246,7 @@ impl Database {
         ensures access { self.new.access ≡ self.old.access }
         ensures moves { (ws : List World) → IsAt self.old ws → Moves ws (Some (DelRow session table key.now)) (plain result) (IsAt self.new) }
         ensures inside { IsInside result }
+        ensures refused { IsRefusal result → Stays self.old self.new }
     {
         let found = self
             .transactions
@@ -252,6 +264,7 @@ impl Database {
         ensures keyed { (ws : List World) → IsAt self.old ws → HasKeys (seen_rows self.new.rows.rows self.new.transactions session.0) }
         ensures few { length (rows_of (seen_rows self.new.rows.rows self.new.transactions session.0) table.0) < 2 ^ 64 }
         ensures inside { IsInside result }
+        ensures refused { IsRefusal result → Stays self.old self.new }
     {
         // A scan has no more rows than these, so they can be counted.
         let _most = self.rows.len() + self.transactions.changes(session).len();
@@ -287,6 +300,7 @@ impl Database {
         ensures access { self.new.access ≡ self.old.access }
         ensures moves { (ws : List World) → IsAt self.old ws → Moves ws (Some (RollbackWork session)) (plain result) (IsAt self.new) }
         ensures inside { IsInside result }
+        ensures refused { IsRefusal result → Stays self.old self.new }
     {
         self.transactions.rollback(session);
         Reply::RolledBack
@@ -308,6 +322,7 @@ impl Database {
             → CommitDoes (H.disk host.old) (H.disk host.new) ws session (IsAt self.new) result }
         ensures cause { HasCause (H.faults host.old) (H.faults host.new) result }
         ensures inside { IfOk result IsInside }
+        ensures refused { IfOk result (λ reply. IsRefusal reply → Stays self.old self.new) }
         ensures say_faults { H.say_faults host.new ≡ H.say_faults host.old }
     {
         if self.transactions.changed(session) == 0 {

@@ -1,15 +1,17 @@
 //! The kernel takes the lines of a script one by one.
-ghost use Rattle.std.specs.Prelude.{◌≡◌, ℕ, ◌≤◌, ◌<◌, ◌^◌, List, IsTrue, IsSome, Some, None, length};
+ghost use Rattle.std.specs.Prelude.{◌≡◌, ℕ, ◌≤◌, ◌<◌, ◌^◌, List, IsTrue, IsSome, Some, None, length, true};
 ghost use Rattle.mdb_model.specs.Answers.{plain};
 ghost use Rattle.mdb_model.specs.Causes.{Rose};
 ghost use Rattle.mdb_model.specs.declared.change.Change.TheVariants.{Put, Del};
 ghost use Rattle.mdb_model.specs.declared.script.Command.TheVariants.{GetRow, PutRow, DelRow, ScanTable, CommitWork, RollbackWork, DbAdmin, DbOnline, DbOffline, Kill};
+ghost use Rattle.mdb_model.specs.Headline.{IsOpenReply};
 ghost use Rattle.mdb_model.specs.Images.{Image};
 ghost use Rattle.mdb_model.specs.Script.{is_in_range, is_session, is_table, is_key};
 ghost use Rattle.mdb_model.specs.Worlds.{World};
 ghost use Rattle.mdb_host.specs.Disk.{Disk, Keeps};
 ghost use Rattle.mdb_bytes.specs.Groups.{change_fits};
-ghost use Rattle.db_kernel.specs.Damages.{IsInside, RepliesDamage};
+ghost use Rattle.db_kernel.specs.Damages.{IsInside, RepliesDamage, EachLeft, IsInReach, IsOpener, past_end_in};
+ghost use Rattle.db_kernel.specs.Refusing.{RefusalLeaves};
 ghost use Rattle.db_kernel.specs.Kept.{Ready, Meets, Fits, answer_of, scanned_rows, AreFew, AreKeyed, NextIs};
 ghost use Rattle.db_kernel.specs.Sessions.{scan_answer};
 ghost use Rattle.db_kernel.specs.Access.{opens, opened_reply, state_of};
@@ -57,7 +59,7 @@ impl Kernel {
     }
 
     /// Takes a line and answers it. The rows of a scan are asked for by `scan_next` once it is
-    /// open. Where a device fails in a commit, the kernel is off after it.
+    /// open.
     pub fn command<H: Host>(&mut self, host: &mut H, line: &Command) -> Reply
         requires range { IsTrue (is_in_range line.now) }
         requires ready { Ready self.old.database }
@@ -69,9 +71,14 @@ impl Kernel {
             → Completes no_pages Stands (H.disk host.old) (H.disk host.new) ws (Some line.now) (answer_of line.now self.new.database result) (Fits self.new.database) }
         ensures few { AreFew line.now self.new.database }
         ensures keyed { H.tells → (ws : List World) → Fits self.old.database ws → AreKeyed line.now self.new.database }
+        ensures in_reach { H.tells → self.old.database ≡ None → IsOpener line.now → IsOpenReply result
+            → EachLeft (H.disk host.new) IsInReach }
+        ensures past_end { H.tells → result ≡ Reply.Refused Refusal.NumberEnd
+            → EachLeft (H.disk host.new) (λ image. past_end_in line.now image ≡ true) }
         ensures later { H.faults host.old ≤ H.faults host.new }
         ensures cause { result ≡ Reply.Refused Refusal.DeviceFailed → Rose (H.faults host.old) (H.faults host.new) }
         ensures damage { H.tells → RepliesDamage (H.disk host.old).seen result }
+        ensures refused { RefusalLeaves self.old.database self.new.database result }
         ensures say_faults { H.say_faults host.new ≡ H.say_faults host.old }
     {
         match line {
@@ -135,6 +142,7 @@ impl Kernel {
         ensures meets { (image : Image) → Meets self.old.database image → Meets self.new.database image }
         ensures moves { (ws : List World) → Fits self.old.database ws → Moves ws (Some (GetRow session table key.now)) (plain result) (Fits self.new.database) }
         ensures inside { IsInside result }
+        ensures refused { RefusalLeaves self.old.database self.new.database result }
     {
         match &mut self.database {
             None => Reply::Refused(Refusal::WrongState(State::Offline)),
@@ -150,6 +158,7 @@ impl Kernel {
         ensures meets { (image : Image) → Meets self.old.database image → Meets self.new.database image }
         ensures moves { (ws : List World) → Fits self.old.database ws → Moves ws (Some (PutRow session table key.now value.now)) (plain result) (Fits self.new.database) }
         ensures inside { IsInside result }
+        ensures refused { RefusalLeaves self.old.database self.new.database result }
     {
         match &mut self.database {
             None => Reply::Refused(Refusal::WrongState(State::Offline)),
@@ -165,6 +174,7 @@ impl Kernel {
         ensures meets { (image : Image) → Meets self.old.database image → Meets self.new.database image }
         ensures moves { (ws : List World) → Fits self.old.database ws → Moves ws (Some (DelRow session table key.now)) (plain result) (Fits self.new.database) }
         ensures inside { IsInside result }
+        ensures refused { RefusalLeaves self.old.database self.new.database result }
     {
         match &mut self.database {
             None => Reply::Refused(Refusal::WrongState(State::Offline)),
@@ -182,6 +192,7 @@ impl Kernel {
         ensures few { AreFew (ScanTable session table) self.new.database }
         ensures keyed { (ws : List World) → Fits self.old.database ws → AreKeyed (ScanTable session table) self.new.database }
         ensures inside { IsInside result }
+        ensures refused { RefusalLeaves self.old.database self.new.database result }
     {
         match &mut self.database {
             None => Reply::Refused(Refusal::WrongState(State::Offline)),
@@ -196,6 +207,7 @@ impl Kernel {
         ensures meets { (image : Image) → Meets self.old.database image → Meets self.new.database image }
         ensures moves { (ws : List World) → Fits self.old.database ws → Moves ws (Some (RollbackWork session)) (plain result) (Fits self.new.database) }
         ensures inside { IsInside result }
+        ensures refused { RefusalLeaves self.old.database self.new.database result }
     {
         match &mut self.database {
             None => Reply::Refused(Refusal::WrongState(State::Offline)),
@@ -207,6 +219,7 @@ impl Kernel {
         ensures off { self.new.database ≡ None }
         ensures moves { (ws : List World) → Fits self.old.database ws → Moves ws (Some Kill) (plain result) (Fits self.new.database) }
         ensures inside { IsInside result }
+        ensures refused { RefusalLeaves self.old.database self.new.database result }
     {
         self.database = None;
         Reply::OfflineNow
@@ -221,9 +234,11 @@ impl Kernel {
         ensures keeps { H.tells → Keeps (H.disk host.old) (H.disk host.new) }
         ensures does { H.tells → (ws : List World) → Fits self.old.database ws → Stand no_pages Stands (H.disk host.old) ws
             → Completes no_pages Stands (H.disk host.old) (H.disk host.new) ws (Some (CommitWork session)) (plain result) (Fits self.new.database) }
+        ensures no_end { result ≡ Reply.Refused Refusal.NumberEnd → ⊥ }
         ensures later { H.faults host.old ≤ H.faults host.new }
         ensures cause { result ≡ Reply.Refused Refusal.DeviceFailed → Rose (H.faults host.old) (H.faults host.new) }
         ensures damage { H.tells → RepliesDamage (H.disk host.old).seen result }
+        ensures refused { RefusalLeaves self.old.database self.new.database result }
         ensures say_faults { H.say_faults host.new ≡ H.say_faults host.old }
     {
         let Some(database) = &mut self.database else {
@@ -247,9 +262,13 @@ impl Kernel {
         ensures keeps { H.tells → Keeps (H.disk host.old) (H.disk host.new) }
         ensures does { H.tells → (ws : List World) → Fits self.old.database ws → Stand no_pages Stands (H.disk host.old) ws
             → Completes no_pages Stands (H.disk host.old) (H.disk host.new) ws (Some DbAdmin) (plain result) (Fits self.new.database) }
+        ensures in_reach { H.tells → self.old.database ≡ None → IsOpenReply result → EachLeft (H.disk host.new) IsInReach }
+        ensures past_end { H.tells → result ≡ Reply.Refused Refusal.NumberEnd
+            → EachLeft (H.disk host.new) (λ image. past_end_in DbAdmin image ≡ true) }
         ensures later { H.faults host.old ≤ H.faults host.new }
         ensures cause { result ≡ Reply.Refused Refusal.DeviceFailed → Rose (H.faults host.old) (H.faults host.new) }
         ensures damage { H.tells → RepliesDamage (H.disk host.old).seen result }
+        ensures refused { RefusalLeaves self.old.database self.new.database result }
         ensures say_faults { H.say_faults host.new ≡ H.say_faults host.old }
     {
         let alloc = self.alloc;
@@ -268,9 +287,13 @@ impl Kernel {
         ensures keeps { H.tells → Keeps (H.disk host.old) (H.disk host.new) }
         ensures does { H.tells → (ws : List World) → Fits self.old.database ws → Stand no_pages Stands (H.disk host.old) ws
             → Completes no_pages Stands (H.disk host.old) (H.disk host.new) ws (Some DbOnline) (plain result) (Fits self.new.database) }
+        ensures in_reach { H.tells → self.old.database ≡ None → IsOpenReply result → EachLeft (H.disk host.new) IsInReach }
+        ensures past_end { H.tells → result ≡ Reply.Refused Refusal.NumberEnd
+            → EachLeft (H.disk host.new) (λ image. past_end_in DbOnline image ≡ true) }
         ensures later { H.faults host.old ≤ H.faults host.new }
         ensures cause { result ≡ Reply.Refused Refusal.DeviceFailed → Rose (H.faults host.old) (H.faults host.new) }
         ensures damage { H.tells → RepliesDamage (H.disk host.old).seen result }
+        ensures refused { RefusalLeaves self.old.database self.new.database result }
         ensures say_faults { H.say_faults host.new ≡ H.say_faults host.old }
     {
         match &mut self.database {
@@ -287,9 +310,13 @@ impl Kernel {
         ensures keeps { H.tells → Keeps (H.disk host.old) (H.disk host.new) }
         ensures does { H.tells → (ws : List World) → Fits None ws → Stand no_pages Stands (H.disk host.old) ws
             → Completes no_pages Stands (H.disk host.old) (H.disk host.new) ws (Some (opens access)) (plain result) (Fits self.new.database) }
+        ensures in_reach { H.tells → IsOpenReply result → EachLeft (H.disk host.new) IsInReach }
+        ensures past_end { H.tells → result ≡ Reply.Refused Refusal.NumberEnd
+            → EachLeft (H.disk host.new) (λ image. past_end_in (opens access) image ≡ true) }
         ensures later { H.faults host.old ≤ H.faults host.new }
         ensures cause { result ≡ Reply.Refused Refusal.DeviceFailed → Rose (H.faults host.old) (H.faults host.new) }
         ensures damage { H.tells → RepliesDamage (H.disk host.old).seen result }
+        ensures refused { RefusalLeaves self.old.database self.new.database result }
         ensures say_faults { H.say_faults host.new ≡ H.say_faults host.old }
     {
         match open_database(self.alloc, host, access) {
@@ -306,6 +333,7 @@ impl Kernel {
         ensures off { self.new.database ≡ None }
         ensures moves { (ws : List World) → Fits self.old.database ws → Moves ws (Some DbOffline) (plain result) (Fits self.new.database) }
         ensures inside { IsInside result }
+        ensures refused { RefusalLeaves self.old.database self.new.database result }
     {
         if self.database.is_none() {
             return Reply::Refused(Refusal::WrongState(State::Offline));

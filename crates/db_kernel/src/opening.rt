@@ -1,11 +1,12 @@
 //! Opening a database: its records say where its log begins, and the log has its rows.
-ghost use Rattle.std.specs.Prelude.{◌≡◌, ℕ, ◌+◌, ◌≤◌, ◌<◌, ◌^◌, List, Err, IfOk, IfErr};
+ghost use Rattle.std.specs.Prelude.{◌≡◌, ℕ, ◌+◌, ◌≤◌, ◌<◌, ◌^◌, List, Err, IfOk, IfErr, OnOk, true};
 ghost use Rattle.mdb_model.specs.Causes.{Rose};
 ghost use Rattle.mdb_model.specs.Worlds.{World};
 ghost use Rattle.mdb_host.specs.Disk.{Disk, Goes, Agree};
 ghost use Rattle.mdb_bytes.specs.Rings.{HasRing};
 ghost use Rattle.redo_ring.specs.Opening.{ring_size};
-ghost use Rattle.db_kernel.specs.Damages.{RefusesInFront, Refuses};
+ghost use Rattle.db_kernel.specs.Access.{opens};
+ghost use Rattle.db_kernel.specs.Damages.{RefusesInFront, Refuses, EachLeft, IsInReach, past_end_in};
 ghost use Rattle.creation.specs.Devices.{device_count, SyncedUpTo};
 ghost use Rattle.db_kernel.specs.Kept.{IsWholeLog, OpenedIs, as_refusal};
 ghost use Rattle.db_kernel.specs.Reading.{IsFound, IsLowStart};
@@ -79,6 +80,7 @@ fn find_records<H: Host>(host: &mut H) -> Result<Found, Refusal>
     ensures start { IfOk result (λ found. IsLowStart found.start) }
     ensures ring { IfOk result (λ found. H.tells → HasRing (ring_size found.start.pages) (H.disk host.new).seen) }
     ensures synced { IfOk result (λ found. H.tells → SyncedUpTo device_count (H.disk host.new)) }
+    ensures past_end { result ≡ Err Refusal.NumberEnd → H.tells → SyncedUpTo device_count (H.disk host.new) }
     ensures refuses { H.tells → IfErr result (RefusesInFront (H.disk host.old).seen) }
     ensures calm { H.tells → Goes (H.disk host.old) (H.disk host.new) Agree }
     ensures seen { H.tells → Agree (H.disk host.old).seen (H.disk host.new).seen }
@@ -106,6 +108,9 @@ pub fn open_database<H: Host>(
     ensures synced { H.tells → IfOk result (λ database. SyncedUpTo device_count (H.disk host.new)) }
     ensures finds { H.tells → (w : World) → (stands : Stands (H.disk host.old).seen w) → OpenedIs stands.site w.history.commits result }
     ensures refuses { H.tells → IfErr result (Refuses (H.disk host.old).seen) }
+    ensures in_reach { H.tells → OnOk result (EachLeft (H.disk host.new) IsInReach) }
+    ensures past_end { H.tells → result ≡ Err Refusal.NumberEnd
+        → EachLeft (H.disk host.new) (λ image. past_end_in (opens access) image ≡ true) }
     ensures later { H.faults host.old ≤ H.faults host.new }
     ensures cause { result ≡ Err Refusal.DeviceFailed → Rose (H.faults host.old) (H.faults host.new) }
     ensures say_faults { H.say_faults host.new ≡ H.say_faults host.old }

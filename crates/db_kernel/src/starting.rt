@@ -1,9 +1,7 @@
 //! Where a call may start. The function does nothing: its contract is the law.
-ghost use Rattle.std.specs.Prelude.{ℕ, Bool, [], ◌∷◌};
-ghost use Rattle.mdb_model.specs.declared.script.Command.{Command};
+ghost use Rattle.std.specs.Prelude.{[], ◌∷◌};
 ghost use Rattle.mdb_model.specs.Headline.{CanStart};
 ghost use Rattle.mdb_model.specs.Images.{Image};
-ghost use Rattle.mdb_model.specs.Pages.{PageMap};
 ghost use Rattle.mdb_model.specs.Worlds.{World};
 ghost use Rattle.mdb_host.specs.Disk.{Disk};
 ghost use Rattle.creation.specs.Standing.{Stands};
@@ -17,8 +15,7 @@ use mdb_host::Host;
 /// for a world: on what the creation of a database leaves, and on what a crash of an earlier call does.
 pub fn each_image_is_a_start<H: Host>(host: &H)
     ensures { H.tells → (w : World) → ((image : Image) → (H.disk host.now).may_leave (H.disk host.now).now image → Stands image w)
-        → (pages_in : Image → PageMap) (savepoint_in commit_in : Image → ℕ) (past_end : Command → Image → Bool)
-        → CanStart no_pages (H.disk host.now).said (H.disk host.now).may_leave Stands pages_in savepoint_in commit_in past_end (H.disk host.now).now ((w, own_age w) ∷ []) }
+        → CanStart no_pages (H.disk host.now).said (H.disk host.now).may_leave Stands (H.disk host.now).now ((w, own_age w) ∷ []) }
 {
     let _host = host;
 }

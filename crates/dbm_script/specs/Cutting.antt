@@ -12,12 +12,14 @@ quoted_past b quoted = if b == 39 then not quoted else quoted
 -- what stands before the first blank outside quotes
 abbrev pub token : Bool → List ℕ → List ℕ
 token quoted [] = []
-token quoted (b ∷ bytes) = if is_blank_byte b && not quoted then [] else b ∷ token (quoted_past b quoted) bytes
+token quoted (b ∷ bytes) =
+    if is_blank_byte b && not quoted then [] else b ∷ token (quoted_past b quoted) bytes
 
 -- and from that blank on
 abbrev pub after_token : Bool → List ℕ → List ℕ
 after_token quoted [] = []
-after_token quoted (b ∷ bytes) = if is_blank_byte b && not quoted then b ∷ bytes else after_token (quoted_past b quoted) bytes
+after_token quoted (b ∷ bytes) =
+    if is_blank_byte b && not quoted then b ∷ bytes else after_token (quoted_past b quoted) bytes
 
 -- the first part as it is spelled
 unfoldable pub first_text : List ℕ → List ℕ
@@ -48,4 +50,5 @@ Follows (first ∷ front) (part ∷ parts) rest = IsSame first part × Follows f
 -- numbers stand one after another, and what is left is behind them
 abbrev pub AreNumbers : List ℕ → List ℕ → List ℕ → Type 0
 AreNumbers [] rest left = left ≡ rest
-AreNumbers (n ∷ numbers) rest left = (number_of (first_text rest) ≡ Some n) × AreNumbers numbers (rest_after rest) left
+AreNumbers (n ∷ numbers) rest left =
+    (number_of (first_text rest) ≡ Some n) × AreNumbers numbers (rest_after rest) left

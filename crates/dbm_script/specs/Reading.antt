@@ -16,12 +16,17 @@ takes_bytes (PutRow session table key value) = true
 takes_bytes (DelRow session table key) = true
 takes_bytes _ = false
 
--- The parts in front were read, and this is left of the line: the command whose other parts stand there, or that
--- there is none. Memory is taken for byte strings alone, once the line is known to spell a command.
+-- The parts in front were read, and this is left of the line: the command whose other parts stand
+-- there, or that there is none. Memory is taken for byte strings alone, once the line is known to
+-- spell a command.
 abbrev pub IsRest : List Part → List ℕ → Result Command LineFault → Type 0
-IsRest front rest (Ok command) = IsTrue (is_in_range command) × Follows front (parts_of command) rest
-IsRest front rest (Err Syntax) = (command : Command) → IsTrue (is_in_range command) → Follows front (parts_of command) rest → ⊥
-IsRest front rest (Err Memory) = (command : Command) × IsTrue (is_in_range command) × IsTrue (takes_bytes command) × Follows front (parts_of command) rest
+IsRest front rest (Ok command) =
+    IsTrue (is_in_range command) × Follows front (parts_of command) rest
+IsRest front rest (Err Syntax) =
+    (command : Command) → IsTrue (is_in_range command) → Follows front (parts_of command) rest → ⊥
+IsRest front rest (Err Memory) =
+    (command : Command) × IsTrue (is_in_range command) × IsTrue (takes_bytes command)
+    × Follows front (parts_of command) rest
 
 -- the number of a commit, where one is named
 abbrev pub is_end : Option ℕ → Bool
@@ -45,11 +50,14 @@ is_single _ = false
 abbrev pub IsLast : Command → Type 0
 IsLast command =
     IsTrue (is_in_range command)
-    × ((other : Command) (rest : List ℕ) → Follows (parts_of command) (parts_of other) rest → past_blanks rest ≡ [])
+    × ((other : Command) (rest : List ℕ) → Follows (parts_of command) (parts_of other) rest
+    → past_blanks rest ≡ [])
 
 -- None where the line is skipped; memory is wanted for a line that spells a command
 abbrev pub IsParsed : List ℕ → Result (Option Command) LineFault → Type 0
 IsParsed line (Ok None) = is_skipped line ≡ true
 IsParsed line (Ok (Some command)) = (is_skipped line ≡ false) × IsLineOf line command
 IsParsed line (Err Syntax) = (is_skipped line ≡ false) × Reads line None
-IsParsed line (Err Memory) = (is_skipped line ≡ false) × ((command : Command) × IsTrue (takes_bytes command) × IsLineOf line command)
+IsParsed line (Err Memory) =
+    (is_skipped line ≡ false) × ((command : Command) × IsTrue (takes_bytes command)
+    × IsLineOf line command)

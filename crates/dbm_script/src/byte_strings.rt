@@ -31,7 +31,9 @@ fn digit_value(digit: u8) -> Option<u8>
 
 // The byte that two digits stand for.
 fn byte_value(high: u8, low: u8) -> Option<u8>
-    ensures { MatchOption result ((x y : ℕ) → hex_value high ≡ Some x → hex_value low ≢ Some y) (λ b. (x : ℕ) × (y : ℕ) × (hex_value high ≡ Some x) × (hex_value low ≡ Some y) × (b ≡ 16 * x + y)) }
+    ensures { MatchOption result ((x y : ℕ) → hex_value high ≡ Some x
+        → hex_value low ≢ Some y) (λ b. (x : ℕ) × (y : ℕ) × (hex_value high ≡ Some x)
+        × (hex_value low ≡ Some y) × (b ≡ 16 * x + y)) }
 {
     let high = digit_value(high)?;
     let low = digit_value(low)?;
@@ -40,7 +42,8 @@ fn byte_value(high: u8, low: u8) -> Option<u8>
 
 // The bytes that stand for themselves between quotes.
 fn plain_bytes(text: &[u8]) -> Option<ValueBuf>
-    ensures { MatchOption result (length text.now ≤ 1500 → IsTrue (list_all is_plain text.now) → ⊥) (λ bytes. IsTrue (list_all is_plain text.now) × (bytes.items ≡ text.now)) }
+    ensures { MatchOption result (length text.now ≤ 1500 → IsTrue (list_all is_plain text.now)
+        → ⊥) (λ bytes. IsTrue (list_all is_plain text.now) × (bytes.items ≡ text.now)) }
 {
     if text.len() > 1500 || !text.iter().all(|byte| is_plain_byte(*byte)) {
         return None;
@@ -54,7 +57,8 @@ fn plain_bytes(text: &[u8]) -> Option<ValueBuf>
 
 // The bytes that pairs of digits stand for.
 fn hexadecimal_bytes(digits: &[u8]) -> Option<ValueBuf>
-    ensures { MatchOption result ((bytes : List ℕ) → length bytes ≤ 1500 → hex_bytes digits.now ≢ Some bytes) (λ bytes. hex_bytes digits.now ≡ Some bytes.items) }
+    ensures { MatchOption result ((bytes : List ℕ) → length bytes ≤ 1500
+        → hex_bytes digits.now ≢ Some bytes) (λ bytes. hex_bytes digits.now ≡ Some bytes.items) }
 {
     if digits.len() > 3000 || digits.len() % 2 != 0 {
         return None;
@@ -71,7 +75,9 @@ fn hexadecimal_bytes(digits: &[u8]) -> Option<ValueBuf>
 
 // What stands between these bytes in front and a quote at the end.
 fn between<'a>(text: &'a [u8], front: &[u8]) -> Option<&'a [u8]>
-    ensures { MatchOption result ((inner : List ℕ) → text.now ≢ front.now ++ (inner ++ 39 ∷ [])) (λ r. text.now ≡ front.now ++ (r.now ++ 39 ∷ [])) }
+    ensures { MatchOption result ((inner : List ℕ)
+        → text.now ≢ front.now ++ (inner ++ 39 ∷ [])) (λ r. text.now ≡ front.now
+        ++ (r.now ++ 39 ∷ [])) }
 {
     let Some(rest) = text.strip_prefix(front) else {
         return None;
@@ -81,7 +87,8 @@ fn between<'a>(text: &'a [u8], front: &[u8]) -> Option<&'a [u8]>
 
 // The bytes of a byte string, where they are no more than a value may have.
 fn bytes_of(text: &[u8]) -> Option<ValueBuf>
-    ensures { MatchOption result ((bytes : List ℕ) → length bytes ≤ 1500 → Spells (Bytes bytes) text.now → ⊥) (λ bytes. Spells (Bytes bytes.items) text.now) }
+    ensures { MatchOption result ((bytes : List ℕ) → length bytes ≤ 1500
+        → Spells (Bytes bytes) text.now → ⊥) (λ bytes. Spells (Bytes bytes.items) text.now) }
 {
     if let Some(inner) = between(text, b"'") {
         return plain_bytes(inner);
@@ -92,8 +99,10 @@ fn bytes_of(text: &[u8]) -> Option<ValueBuf>
 
 /// The bytes of a key, and what follows it.
 pub fn key(rest: &[u8]) -> Result<(ValueBuf, &[u8]), LineFault>
-    ensures { MatchResult result (λ r. IsTrue (is_key r.0.items) × Spells (Bytes r.0.items) (first_text rest.now) × (r.1.now ≡ rest_after rest.now))
-        (λ e. (e ≡ Syntax) × ((bytes : List ℕ) → IsTrue (is_key bytes) → Spells (Bytes bytes) (first_text rest.now) → ⊥)) }
+    ensures { MatchResult result (λ r. IsTrue (is_key r.0.items)
+        × Spells (Bytes r.0.items) (first_text rest.now) × (r.1.now ≡ rest_after rest.now))
+        (λ e. (e ≡ Syntax) × ((bytes : List ℕ) → IsTrue (is_key bytes)
+        → Spells (Bytes bytes) (first_text rest.now) → ⊥)) }
 {
     let (text, rest) = cut(rest);
     match bytes_of(text) {
@@ -104,8 +113,10 @@ pub fn key(rest: &[u8]) -> Result<(ValueBuf, &[u8]), LineFault>
 
 /// The bytes of a value, and what follows it.
 pub fn value(rest: &[u8]) -> Result<(ValueBuf, &[u8]), LineFault>
-    ensures { MatchResult result (λ r. IsTrue (is_value r.0.items) × Spells (Bytes r.0.items) (first_text rest.now) × (r.1.now ≡ rest_after rest.now))
-        (λ e. (e ≡ Syntax) × ((bytes : List ℕ) → IsTrue (is_value bytes) → Spells (Bytes bytes) (first_text rest.now) → ⊥)) }
+    ensures { MatchResult result (λ r. IsTrue (is_value r.0.items)
+        × Spells (Bytes r.0.items) (first_text rest.now) × (r.1.now ≡ rest_after rest.now))
+        (λ e. (e ≡ Syntax) × ((bytes : List ℕ) → IsTrue (is_value bytes)
+        → Spells (Bytes bytes) (first_text rest.now) → ⊥)) }
 {
     let (text, rest) = cut(rest);
     match bytes_of(text) {

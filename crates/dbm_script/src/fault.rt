@@ -6,6 +6,6 @@ use thiserror::Error;
 pub enum LineFault {
     #[error("the line is not in the language")]
     Syntax,
-    #[error("memory was wanting")]
+    #[error("out of memory")]
     Memory,
 }

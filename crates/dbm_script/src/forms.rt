@@ -26,7 +26,8 @@ pub fn is_word(text: &[u8], word: &[u8]) -> bool
 
 /// The line ends here.
 pub fn end(rest: &[u8]) -> Result<(), LineFault>
-    ensures { MatchResult result (λ _. past_blanks rest.now ≡ []) (λ e. (e ≡ Syntax) × (past_blanks rest.now ≢ [])) }
+    ensures { MatchResult result (λ _. past_blanks rest.now ≡ []) (λ e. (e ≡ Syntax)
+        × (past_blanks rest.now ≢ [])) }
 {
     if !skip_blanks(rest).is_empty() {
         return Err(LineFault::Syntax);
@@ -45,8 +46,10 @@ pub fn last(rest: &[u8], command: Command) -> Result<Command, LineFault>
 
 // A table and a key, which end the line.
 fn place(rest: &[u8]) -> Result<(Table, ValueBuf), LineFault>
-    ensures { MatchResult result (λ r. IsTrue (is_table r.0.0) × IsTrue (is_key r.1.items) × Fits (Number r.0.0 ∷ Bytes r.1.items ∷ []) rest.now)
-        (λ e. (e ≡ Syntax) × ((t : ℕ) (k : List ℕ) → IsTrue (is_table t) → IsTrue (is_key k) → Fits (Number t ∷ Bytes k ∷ []) rest.now → ⊥)) }
+    ensures { MatchResult result (λ r. IsTrue (is_table r.0.0) × IsTrue (is_key r.1.items)
+        × Fits (Number r.0.0 ∷ Bytes r.1.items ∷ []) rest.now)
+        (λ e. (e ≡ Syntax) × ((t : ℕ) (k : List ℕ) → IsTrue (is_table t) → IsTrue (is_key k)
+        → Fits (Number t ∷ Bytes k ∷ []) rest.now → ⊥)) }
 {
     let (table, rest) = table(rest)?;
     let (key, rest) = key(rest)?;
@@ -56,8 +59,11 @@ fn place(rest: &[u8]) -> Result<(Table, ValueBuf), LineFault>
 
 // A table, a key and a value, which end the line.
 fn row(rest: &[u8]) -> Result<(Table, ValueBuf, ValueBuf), LineFault>
-    ensures { MatchResult result (λ r. IsTrue (is_table r.0.0) × IsTrue (is_key r.1.items) × IsTrue (is_value r.2.items) × Fits (Number r.0.0 ∷ Bytes r.1.items ∷ Bytes r.2.items ∷ []) rest.now)
-        (λ e. (e ≡ Syntax) × ((t : ℕ) (k v : List ℕ) → IsTrue (is_table t) → IsTrue (is_key k) → IsTrue (is_value v) → Fits (Number t ∷ Bytes k ∷ Bytes v ∷ []) rest.now → ⊥)) }
+    ensures { MatchResult result (λ r. IsTrue (is_table r.0.0) × IsTrue (is_key r.1.items)
+        × IsTrue (is_value r.2.items) × Fits (Number r.0.0 ∷ Bytes r.1.items ∷ Bytes r.2.items
+        ∷ []) rest.now)
+        (λ e. (e ≡ Syntax) × ((t : ℕ) (k v : List ℕ) → IsTrue (is_table t) → IsTrue (is_key k)
+        → IsTrue (is_value v) → Fits (Number t ∷ Bytes k ∷ Bytes v ∷ []) rest.now → ⊥)) }
 {
     let (table, rest) = table(rest)?;
     let (key, rest) = key(rest)?;
@@ -90,7 +96,8 @@ fn kept_value(alloc: Global, bytes: &ValueBuf) -> Result<Value, LineFault>
 
 fn get_row(alloc: Global, session: Session, rest: &[u8]) -> Result<Command, LineFault>
     requires { IsTrue (is_session session.0) }
-    ensures { IsRest (Word (codes "s") ∷ Number session.0 ∷ Word (codes "get") ∷ []) rest.now result }
+    ensures { IsRest (Word (codes "s") ∷ Number session.0 ∷ Word (codes "get")
+        ∷ []) rest.now result }
 {
     let (table, key) = place(rest)?;
     let Ok(key) = kept_key(alloc, &key) else {
@@ -101,7 +108,8 @@ fn get_row(alloc: Global, session: Session, rest: &[u8]) -> Result<Command, Line
 
 fn del_row(alloc: Global, session: Session, rest: &[u8]) -> Result<Command, LineFault>
     requires { IsTrue (is_session session.0) }
-    ensures { IsRest (Word (codes "s") ∷ Number session.0 ∷ Word (codes "del") ∷ []) rest.now result }
+    ensures { IsRest (Word (codes "s") ∷ Number session.0 ∷ Word (codes "del")
+        ∷ []) rest.now result }
 {
     let (table, key) = place(rest)?;
     let Ok(key) = kept_key(alloc, &key) else {
@@ -112,7 +120,8 @@ fn del_row(alloc: Global, session: Session, rest: &[u8]) -> Result<Command, Line
 
 fn put_row(alloc: Global, session: Session, rest: &[u8]) -> Result<Command, LineFault>
     requires { IsTrue (is_session session.0) }
-    ensures { IsRest (Word (codes "s") ∷ Number session.0 ∷ Word (codes "put") ∷ []) rest.now result }
+    ensures { IsRest (Word (codes "s") ∷ Number session.0 ∷ Word (codes "put")
+        ∷ []) rest.now result }
 {
     let (table, key, value) = row(rest)?;
     let Ok(key) = kept_key(alloc, &key) else {
@@ -126,7 +135,8 @@ fn put_row(alloc: Global, session: Session, rest: &[u8]) -> Result<Command, Line
 
 fn scan_table(session: Session, rest: &[u8]) -> Result<Command, LineFault>
     requires { IsTrue (is_session session.0) }
-    ensures { IsRest (Word (codes "s") ∷ Number session.0 ∷ Word (codes "scan") ∷ []) rest.now result }
+    ensures { IsRest (Word (codes "s") ∷ Number session.0 ∷ Word (codes "scan")
+        ∷ []) rest.now result }
 {
     let (table, rest) = table(rest)?;
     last(rest, Command::ScanTable(session, table))
@@ -169,8 +179,10 @@ pub fn session_line(alloc: Global, rest: &[u8]) -> Result<Command, LineFault>
 
 // The kind of a backup of pages, and what follows it.
 fn page_kind(rest: &[u8]) -> Result<(PageKind, &[u8]), LineFault>
-    ensures { MatchResult result (λ r. Spells (page_kind_part r.0) (first_text rest.now) × (r.1.now ≡ rest_after rest.now))
-        (λ e. (e ≡ Syntax) × ((kind : PageKind) → Spells (page_kind_part kind) (first_text rest.now) → ⊥)) }
+    ensures { MatchResult result (λ r. Spells (page_kind_part r.0) (first_text rest.now)
+        × (r.1.now ≡ rest_after rest.now))
+        (λ e. (e ≡ Syntax) × ((kind : PageKind) → Spells (page_kind_part kind) (first_text rest.now)
+        → ⊥)) }
 {
     let (text, rest) = cut(rest);
     if is_word(text, b"DATA") {
@@ -184,8 +196,10 @@ fn page_kind(rest: &[u8]) -> Result<(PageKind, &[u8]), LineFault>
 
 // The kind of a backup, and what follows it.
 fn backup_kind(rest: &[u8]) -> Result<(BackupKind, &[u8]), LineFault>
-    ensures { MatchResult result (λ r. Spells (backup_kind_part r.0) (first_text rest.now) × (r.1.now ≡ rest_after rest.now))
-        (λ e. (e ≡ Syntax) × ((kind : BackupKind) → Spells (backup_kind_part kind) (first_text rest.now) → ⊥)) }
+    ensures { MatchResult result (λ r. Spells (backup_kind_part r.0) (first_text rest.now)
+        × (r.1.now ≡ rest_after rest.now))
+        (λ e. (e ≡ Syntax) × ((kind : BackupKind)
+        → Spells (backup_kind_part kind) (first_text rest.now) → ⊥)) }
 {
     let (text, after) = cut(rest);
     if is_word(text, b"LOG") {
@@ -275,7 +289,8 @@ pub fn snapshot_revert(rest: &[u8]) -> Result<Command, LineFault>
 
 /// The command that is a single word.
 pub fn single(word: &[u8]) -> Option<Command>
-    ensures { MatchOption result ((command : Command) → IsTrue (is_single command) → parts_of command ≢ Word word.now ∷ [])
+    ensures { MatchOption result ((command : Command) → IsTrue (is_single command)
+        → parts_of command ≢ Word word.now ∷ [])
         (λ command. IsLast command × (parts_of command ≡ Word word.now ∷ [])) }
 {
     if is_word(word, b"db_admin") {

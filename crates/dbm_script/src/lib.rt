@@ -18,6 +18,3 @@ pub use numbers::number;
 pub use printing::{print_end, print_medium, print_reply, print_row};
 pub use replies::{medium_text, reply_text, row_text};
 pub use writing::LineBuf;
-
-#[cfg(test)]
-mod tests;

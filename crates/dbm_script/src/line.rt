@@ -10,12 +10,9 @@ use crate::forms::{
     snapshot_revert, task_line, turn_line,
 };
 use crate::recovering::recover;
+use mdb_model::limits::LONGEST_LINE;
 use mdb_model::script::Command;
 use std::alloc::Global;
-
-// The longest line, in bytes.
-const LONGEST: usize = 8192;
-
 // There is nothing but blanks, or a comment.
 fn is_blank_or_comment(line: &[u8]) -> bool
     ensures { result ≡ is_empty_or_comment (past_blanks line.now) }
@@ -69,7 +66,7 @@ fn command(alloc: Global, line: &[u8]) -> Result<Command, LineFault>
 pub fn parse_line(alloc: Global, line: &[u8]) -> Result<Option<Command>, LineFault>
     ensures { IsParsed line.now result }
 {
-    if line.len() > LONGEST {
+    if line.len() > LONGEST_LINE {
         return Err(LineFault::Syntax);
     }
     if is_blank_or_comment(line) {

@@ -14,8 +14,10 @@ use mdb_model::script::{MediumLine, Reply};
 
 /// Says a reply that ends no items. Where that fails, a front part of it was said.
 pub fn print_reply<S: Say>(reply: &Reply, to: &mut S) -> Result<(), Failed>
-    ensures whole { OnOk result (Adds (S.said to.old) (S.said to.new) (line_of (reply_words 0 reply.now))) }
-    ensures part { OnErr result (AddsPart (S.said to.old) (S.said to.new) (line_of (reply_words 0 reply.now))) }
+    ensures whole { OnOk result (Adds (S.said to.old) (S.said to.new)
+        (line_of (reply_words 0 reply.now))) }
+    ensures part { OnErr result (AddsPart (S.said to.old) (S.said to.new)
+        (line_of (reply_words 0 reply.now))) }
     ensures cause { HasCause (S.faults to.old) (S.faults to.new) result }
     ensures follows { S.follows to.old to.new }
 {
@@ -24,8 +26,10 @@ pub fn print_reply<S: Say>(reply: &Reply, to: &mut S) -> Result<(), Failed>
 
 /// Says the reply that ends so many items. Where that fails, a front part of it was said.
 pub fn print_end<S: Say>(reply: &Reply, items: u64, to: &mut S) -> Result<(), Failed>
-    ensures whole { OnOk result (Adds (S.said to.old) (S.said to.new) (line_of (reply_words items reply.now))) }
-    ensures part { OnErr result (AddsPart (S.said to.old) (S.said to.new) (line_of (reply_words items reply.now))) }
+    ensures whole { OnOk result (Adds (S.said to.old) (S.said to.new)
+        (line_of (reply_words items reply.now))) }
+    ensures part { OnErr result (AddsPart (S.said to.old) (S.said to.new)
+        (line_of (reply_words items reply.now))) }
     ensures cause { HasCause (S.faults to.old) (S.faults to.new) result }
     ensures follows { S.follows to.old to.new }
 {
@@ -36,8 +40,10 @@ pub fn print_end<S: Say>(reply: &Reply, items: u64, to: &mut S) -> Result<(), Fa
 
 /// Says a row of a scan. Where that fails, a front part of it was said.
 pub fn print_row<S: Say>(key: &KeyBuf, value: &ValueBuf, to: &mut S) -> Result<(), Failed>
-    ensures whole { OnOk result (Adds (S.said to.old) (S.said to.new) (line_of (item_words (Row key.now.items value.now.items)))) }
-    ensures part { OnErr result (AddsPart (S.said to.old) (S.said to.new) (line_of (item_words (Row key.now.items value.now.items)))) }
+    ensures whole { OnOk result (Adds (S.said to.old) (S.said to.new)
+        (line_of (item_words (Row key.now.items value.now.items)))) }
+    ensures part { OnErr result (AddsPart (S.said to.old) (S.said to.new)
+        (line_of (item_words (Row key.now.items value.now.items)))) }
     ensures cause { HasCause (S.faults to.old) (S.faults to.new) result }
     ensures follows { S.follows to.old to.new }
 {
@@ -48,8 +54,10 @@ pub fn print_row<S: Say>(key: &KeyBuf, value: &ValueBuf, to: &mut S) -> Result<(
 
 /// Says a line of a list of media. Where that fails, a front part of it was said.
 pub fn print_medium<S: Say>(medium: &MediumLine, to: &mut S) -> Result<(), Failed>
-    ensures whole { OnOk result (Adds (S.said to.old) (S.said to.new) (line_of (item_words (MediumRow medium.now)))) }
-    ensures part { OnErr result (AddsPart (S.said to.old) (S.said to.new) (line_of (item_words (MediumRow medium.now)))) }
+    ensures whole { OnOk result (Adds (S.said to.old) (S.said to.new)
+        (line_of (item_words (MediumRow medium.now)))) }
+    ensures part { OnErr result (AddsPart (S.said to.old) (S.said to.new)
+        (line_of (item_words (MediumRow medium.now)))) }
     ensures cause { HasCause (S.faults to.old) (S.faults to.new) result }
     ensures follows { S.follows to.old to.new }
 {

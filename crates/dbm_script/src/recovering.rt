@@ -18,7 +18,8 @@ fn media(rest: &[u8]) -> (ArrayVec<u8, 99>, &[u8])
     ensures media { IsTrue (list_all is_medium result.0.items) }
     ensures few { length result.0.items ≤ 99 }
     ensures read { AreNumbers result.0.items rest.now result.1.now }
-    ensures whole { (length result.0.items ≡ 99) ⊎ ((n : ℕ) → IsTrue (is_medium n) → number_of (first_text result.1.now) ≢ Some n) }
+    ensures whole { (length result.0.items ≡ 99)
+        ⊎ ((n : ℕ) → IsTrue (is_medium n) → number_of (first_text result.1.now) ≢ Some n) }
 {
     let mut media = ArrayVec::new();
     let mut left = rest;
@@ -34,7 +35,9 @@ fn media(rest: &[u8]) -> (ArrayVec<u8, 99>, &[u8])
 
 // Whether the log follows, and what is behind it.
 fn log_option(rest: &[u8]) -> (bool, &[u8])
-    ensures { MatchBool result.0 ((first_text rest.now ≡ codes "log") × (result.1.now ≡ rest_after rest.now)) ((first_text rest.now ≢ codes "log") × (result.1.now ≡ rest.now)) }
+    ensures { MatchBool result.0 ((first_text rest.now ≡ codes "log")
+        × (result.1.now ≡ rest_after rest.now)) ((first_text rest.now ≢ codes "log")
+        × (result.1.now ≡ rest.now)) }
 {
     let (text, after) = cut(rest);
     if is_word(text, b"log") {
@@ -46,7 +49,8 @@ fn log_option(rest: &[u8]) -> (bool, &[u8])
 // The commit that the line ends with, if it names one.
 fn until_option(rest: &[u8]) -> Result<Option<u64>, LineFault>
     ensures { MatchResult result (λ until. IsTrue (is_end until) × Fits (until_part until) rest.now)
-        (λ e. (e ≡ Syntax) × ((until : Option ℕ) → IsTrue (is_end until) → Fits (until_part until) rest.now → ⊥)) }
+        (λ e. (e ≡ Syntax) × ((until : Option ℕ) → IsTrue (is_end until)
+        → Fits (until_part until) rest.now → ⊥)) }
 {
     let (text, after) = cut(rest);
     if !is_word(text, b"until") {
@@ -67,7 +71,8 @@ fn recover_options(media: ArrayVec<u8, 99>, rest: &[u8]) -> Result<Command, Line
     requires media { IsTrue (list_all is_medium media.items) }
     requires some { 0 < length media.items }
     requires few { length media.items ≤ 99 }
-    requires whole { (length media.items ≡ 99) ⊎ ((n : ℕ) → IsTrue (is_medium n) → number_of (first_text rest.now) ≢ Some n) }
+    requires whole { (length media.items ≡ 99)
+        ⊎ ((n : ℕ) → IsTrue (is_medium n) → number_of (first_text rest.now) ≢ Some n) }
     ensures { IsRest (Word (codes "recover") ∷ map Number media.items) rest.now result }
 {
     let (log, rest) = log_option(rest);

@@ -4,7 +4,8 @@
 --     has_bit, flags_of      the same tests as the bits of a row of words
 --     IsFirstBit      the lowest bit that is set
 --     IsPacked      what is kept of such a row
-use Rattle.std.specs.Prelude.{◌≡◌, ℕ, ◌*◌, ◌/◌, ◌%◌, ◌<◌, ◌≤◌, List, Bool, true, false, eqb, length, map, get_or}
+use Rattle.std.specs.Prelude.{◌≡◌, ℕ, ◌*◌, ◌/◌, ◌%◌, ◌<◌, ◌≤◌}
+use Rattle.std.specs.Prelude.{List, Bool, true, false, eqb, length, map, get_or}
 use Rattle.std.specs.List.{count_by, range_with_len}
 use Rattle.std.specs.Int.{bit_at}
 
@@ -35,12 +36,16 @@ pub record IsFirstBit (words : List ℕ) (b : ℕ) : Type 0 where
   pub set : has_bit words b ≡ true
   pub none : (k : ℕ) → k < b → has_bit words k ≡ false
 
--- The words have a bit for each block and none set past the last, none of the words before `low` has one set,
--- and as many are set as `count` says.
+-- The words have a bit for each block and none set past the last, none of the words before `low`
+-- has one set, and as many are set as `count` says. The numbers are those of src/free.rt.
 pub record IsPacked (words : List ℕ) (blocks low count : ℕ) : Type 0 where
+  -- (1)
   pub long : blocks ≤ 64 * length words
   pub small : blocks ≤ 65536
   pub few : length words ≤ 1024
+  -- (2)
   pub beyond : (b : ℕ) → blocks ≤ b → has_bit words b ≡ false
+  -- (3)
   pub below : (k : ℕ) → k < low → get_or words k 0 ≡ 0
+  -- (4)
   pub counted : count ≡ free_count (flags_of words blocks)

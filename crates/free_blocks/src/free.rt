@@ -1,5 +1,13 @@
-//! The free blocks of an area.
-ghost use Rattle.std.specs.Prelude.{◌≡◌, ◌↔◌, ℕ, ◌<◌, ◌≤◌, length, replicate, IfOk, IsTrue, MatchOption, slice_set, get_or, true, false};
+//! The free blocks of an area. What holds of them at any time (`IsPacked`):
+//!
+//! 1. There is a bit for each block, of 65,536 blocks at most.
+//! 2. No bit past the last block is set.
+//! 3. No word before `low` has a bit that is set.
+//! 4. `count` is the number of bits that are set.
+ghost use Rattle.std.specs.Prelude.{◌≡◌, ◌↔◌, ℕ, ◌<◌, ◌≤◌};
+ghost use Rattle.std.specs.Prelude.{length, replicate, IfOk, IsTrue, MatchOption, slice_set};
+ghost use Rattle.std.specs.Prelude.{get_or, true, false};
+ghost use Rattle.mdb_model.specs.declared.limits.TheConstants.{MOST_BLOCKS};
 ghost use Rattle.free_blocks.specs.Free.{IsFree, IsLeastFree, free_count, has_bit, IsFirstBit};
 
 use mdb_model::fault::Memory;
@@ -32,9 +40,9 @@ impl Model for FreeBlocks {
 }
 
 impl FreeBlocks {
-    /// No block is free. Nothing is kept where memory is wanting.
+    /// No block is free. Out of memory, nothing is kept.
     pub fn new(alloc: Global, blocks: u32) -> Result<FreeBlocks, Memory>
-        requires { blocks ≤ 65536 }
+        requires { blocks ≤ MOST_BLOCKS }
         ensures { IfOk result (λ s. s ≡ replicate blocks false) }
     {
         let Ok(words) = vec![in alloc; 0u64; (blocks as usize).div_ceil(BITS)] else {
@@ -80,7 +88,7 @@ impl FreeBlocks {
     /// How many blocks are free.
     pub fn count(&self) -> u32
         ensures count { result ≡ free_count self.now }
-        ensures bound { length self.now ≤ 65536 }
+        ensures bound { length self.now ≤ MOST_BLOCKS }
     {
         self.count
     }

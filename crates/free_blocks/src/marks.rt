@@ -6,8 +6,8 @@ use mdb_model::fault::Memory;
 use std::alloc::Global;
 use std::marker::Model;
 
-/// The marks that each block of an area has, in two bytes a block. It is seen as a list of tests for
-/// each block from 0 on, one test for each of the marks 0 to 15.
+/// The marks that each block of an area has, in two bytes a block. It is seen as a list of tests
+/// for each block from 0 on, one test for each of the marks 0 to 15.
 #[derive(Drop)]
 pub struct Marks {
     bits: Vec<u16>,
@@ -23,7 +23,7 @@ impl Model for Marks {
 }
 
 impl Marks {
-    /// No block has a mark. Nothing is kept where memory is wanting.
+    /// No block has a mark. Out of memory, nothing is kept.
     pub fn new(alloc: Global, blocks: u32) -> Result<Marks, Memory>
         ensures { IfOk result (λ s. s ≡ replicate blocks (replicate 16 false)) }
     {

@@ -37,7 +37,8 @@ gate_in image place slot = byte_at (image place.device) (start_of place slot + s
 
 -- the bytes in front of it
 unfoldable pub body_in : Image → SlotPlace → Slot → List ℕ
-body_in image place slot = take slot_len (drop (start_of place slot) (bytes_of (image place.device)))
+body_in image place slot =
+    take slot_len (drop (start_of place slot) (bytes_of (image place.device)))
 
 -- the record that the bytes of a body spell on a device, if there is one
 abbrev pub body_of : Device → List ℕ → Option SlotBody
@@ -52,7 +53,9 @@ slot_number (LogBody info) = info.slot
 
 -- the record that a slot holds: none where its gate is closed, and where its body is no record
 abbrev pub slot_in : Image → SlotPlace → Slot → Option SlotBody
-slot_in image place slot = if gate_in image place slot == open_gate then body_of place.device (body_in image place slot) else None
+slot_in image place slot =
+    if gate_in image place slot == open_gate then body_of place.device (body_in image place slot)
+    else None
 
 -- of two the one with the greater number, and the first where the numbers are equal
 abbrev pub greater : Option SlotBody → Option SlotBody → Option SlotBody
@@ -90,9 +93,12 @@ Yields slot body None = Unit {0}
 Yields First body (Some other) = slot_number other ≤ slot_number body
 Yields Second body (Some other) = slot_number other < slot_number body
 
--- the other slot may be written: its gate is closed, or it is told to be open and its body would not count
+-- the other slot may be written: its gate is closed, or it is told to be open and its body would
+-- not count
 abbrev pub Waits : (is_open : Bool) → Slots → SlotBody → Image → Type 0
-Waits true slots body image = Yields slots.current body (body_of slots.place.device (body_in image slots.place (other_of slots.current)))
+Waits true slots body image =
+    Yields slots.current body (body_of slots.place.device
+    (body_in image slots.place (other_of slots.current)))
 Waits false slots body image = gate_in image slots.place (other_of slots.current) ≢ open_gate
 
 -- the current slot is open on this record, which is then in force

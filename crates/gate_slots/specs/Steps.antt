@@ -21,7 +21,8 @@ SlotsTorn place old new = Torn place.device (8192 * place.page) 16384 old new
 -- the record that was in force is, or the next one
 pub record Switches (slots : Slots) (next : SlotBody) (old new : Image) : Type 0 where
   pub torn : SlotsTorn slots.place old new
-  pub force : (body : SlotBody) → IsReady slots body old → (in_force new slots.place ≡ Some body) ⊎ (in_force new slots.place ≡ Some next)
+  pub force : (body : SlotBody) → IsReady slots body old
+      → (in_force new slots.place ≡ Some body) ⊎ (in_force new slots.place ≡ Some next)
 
 -- the next one is, as the slots say now
 pub record Switched (slots now : Slots) (next : SlotBody) (old new : Image) : Type 0 where
@@ -29,9 +30,11 @@ pub record Switched (slots now : Slots) (next : SlotBody) (old new : Image) : Ty
   pub ready : (body : SlotBody) → IsReady slots body old → IsReady now next new
 
 -- where neither slot counted, none does or this record is in force
-pub record Begins (seen : Image) (place : SlotPlace) (body : SlotBody) (old new : Image) : Type 0 where
+pub record Begins (seen : Image) (place : SlotPlace) (body : SlotBody) (old new : Image)
+    : Type 0 where
   pub torn : SlotsTorn place old new
-  pub force : IsBlank seen place old → (in_force new place ≡ None) ⊎ (in_force new place ≡ Some body)
+  pub force : IsBlank seen place old → (in_force new place ≡ None)
+      ⊎ (in_force new place ≡ Some body)
 
 -- it is in force, as the slots say
 pub record Begun (seen : Image) (slots : Slots) (body : SlotBody) (old new : Image) : Type 0 where
@@ -51,23 +54,30 @@ abbrev pub IsTold : (is_open : Bool) → SlotPlace → Slot → Image → Type 0
 IsTold is_open place slot image = is_open ≡ false → gate_in image place slot ≢ open_gate
 
 -- it does not count, or, where it was told to be open, holds what its body says
-pub record Closes (place : SlotPlace) (slot : Slot) (is_open : Bool) (old new : Image) : Type 0 where
+pub record Closes (place : SlotPlace) (slot : Slot) (is_open : Bool) (old new : Image)
+    : Type 0 where
   pub keeps : KeepsOther place slot old new
   pub this : IsTold is_open place slot old
-      → (slot_in new place slot ≡ None) ⊎ ((is_open ≡ true) × (slot_in new place slot ≡ body_of place.device (body_in old place slot)))
+      → (slot_in new place slot ≡ None) ⊎ ((is_open ≡ true)
+      × (slot_in new place slot ≡ body_of place.device (body_in old place slot)))
 
 -- its gate is closed
-pub record Empties (place : SlotPlace) (slot : Slot) (is_open : Bool) (old new : Image) : Type 0 where
+pub record Empties (place : SlotPlace) (slot : Slot) (is_open : Bool) (old new : Image)
+    : Type 0 where
   pub keeps : KeepsOther place slot old new
   pub shut : IsTold is_open place slot old → gate_in new place slot ≢ open_gate
 
 -- as one of the two, or it holds the next record
-pub record Replaces (place : SlotPlace) (slot : Slot) (is_open : Bool) (next : SlotBody) (old new : Image) : Type 0 where
+pub record Replaces (place : SlotPlace) (slot : Slot) (is_open : Bool) (next : SlotBody)
+    (old new : Image) : Type 0 where
   pub keeps : KeepsOther place slot old new
   pub this : IsTold is_open place slot old
-      → (slot_in new place slot ≡ None) ⊎ (((is_open ≡ true) × (slot_in new place slot ≡ body_of place.device (body_in old place slot))) ⊎ (slot_in new place slot ≡ Some next))
+      → (slot_in new place slot ≡ None) ⊎
+      (((is_open ≡ true) × (slot_in new place slot
+      ≡ body_of place.device (body_in old place slot))) ⊎ (slot_in new place slot ≡ Some next))
 
 -- it holds the next record
-pub record Replaced (place : SlotPlace) (slot : Slot) (next : SlotBody) (old new : Image) : Type 0 where
+pub record Replaced (place : SlotPlace) (slot : Slot) (next : SlotBody) (old new : Image)
+    : Type 0 where
   pub keeps : KeepsOther place slot old new
   pub this : slot_in new place slot ≡ Some next

@@ -32,7 +32,8 @@ impl SlotBody {
     pub(crate) fn encode(&self, into: &mut [u8])
         requires exact { length into.old ≡ slot_len }
         requires keeps { KeepsBody self.now }
-        ensures { (device : Device) → IsFor device self.now → body_of device into.new ≡ Some self.now }
+        ensures { (device : Device) → IsFor device self.now
+            → body_of device into.new ≡ Some self.now }
     {
         match self {
             SlotBody::Restart(record) => encode_restart_record(record, into),

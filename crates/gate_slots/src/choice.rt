@@ -19,7 +19,15 @@ impl SlotPage {
 
 // The slots with this record in force.
 fn found_in(place: SlotPlace, current: Slot, other_open: bool, body: SlotBody) -> (Slots, SlotBody)
-    ensures { result ≡ (record { place = place; number = slot_number body; current = current; other_open = other_open }, body) }
+    ensures { result ≡ (
+      record {
+        place = place;
+        number = slot_number body;
+        current = current;
+        other_open = other_open;
+      },
+      body,
+    ) }
 {
     let number = body.number();
     let slots = Slots {

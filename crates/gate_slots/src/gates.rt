@@ -13,13 +13,7 @@ ghost use Rattle.gate_slots.specs.Steps.{SlotsTorn, Closes, Empties, Replaces, R
 use crate::body::{SlotBody, decode_body};
 use crate::place::{Slot, SlotPlace};
 use mdb_host::{Failed, Host, write_kept};
-
-// The gate of a slot that counts.
-const OPEN: u8 = 0x4F;
-
-// Any other byte closes it.
-const CLOSED: u8 = 0;
-
+use mdb_model::limits::{CLOSED_GATE, OPEN_GATE};
 /// What a read of a slot gives: whether its gate is open, and the record that its body spells.
 #[derive(Drop)]
 pub(crate) struct SlotPage {
@@ -30,26 +24,31 @@ pub(crate) struct SlotPage {
 /// Whether the gate of a slot is open.
 fn read_gate<H: Host>(host: &mut H, place: SlotPlace, slot: Slot) -> Result<bool, Failed>
     requires place { IsSlotPlace place }
-    requires within { H.tells → IsWithin (H.disk host.old).seen place.device (8192 * place.page) 16384 }
+    requires within { H.tells → IsWithin (H.disk host.old).seen place.device (8192 * place.page)
+        16384 }
     ensures calm { H.tells → Goes (H.disk host.old) (H.disk host.new) Agree }
     ensures seen { H.tells → Agree (H.disk host.old).seen (H.disk host.new).seen }
-    ensures gate { IfOk result (λ is_open. H.tells → is_open ≡ (gate_in (H.disk host.old).seen place slot == open_gate)) }
+    ensures gate { IfOk result (λ is_open. H.tells
+        → is_open ≡ (gate_in (H.disk host.old).seen place slot == open_gate)) }
     ensures cause { HasCause (H.faults host.old) (H.faults host.new) result }
     ensures say_faults { H.say_faults host.new ≡ H.say_faults host.old }
 {
-    let mut gate = [CLOSED];
+    let mut gate = [CLOSED_GATE];
     host.read(place.device, place.gate(slot), &mut gate)?;
-    Ok(gate[0] == OPEN)
+    Ok(gate[0] == OPEN_GATE)
 }
 
 /// Whether the gates of both slots are open.
 pub(crate) fn read_gates<H: Host>(host: &mut H, place: SlotPlace) -> Result<(bool, bool), Failed>
     requires place { IsSlotPlace place }
-    requires within { H.tells → IsWithin (H.disk host.old).seen place.device (8192 * place.page) 16384 }
+    requires within { H.tells → IsWithin (H.disk host.old).seen place.device (8192 * place.page)
+        16384 }
     ensures calm { H.tells → Goes (H.disk host.old) (H.disk host.new) Agree }
     ensures seen { H.tells → Agree (H.disk host.old).seen (H.disk host.new).seen }
-    ensures first { IfOk result (λ are_open. H.tells → are_open.0 ≡ (gate_in (H.disk host.old).seen place First == open_gate)) }
-    ensures second { IfOk result (λ are_open. H.tells → are_open.1 ≡ (gate_in (H.disk host.old).seen place Second == open_gate)) }
+    ensures first { IfOk result (λ are_open. H.tells
+        → are_open.0 ≡ (gate_in (H.disk host.old).seen place First == open_gate)) }
+    ensures second { IfOk result (λ are_open. H.tells
+        → are_open.1 ≡ (gate_in (H.disk host.old).seen place Second == open_gate)) }
     ensures cause { HasCause (H.faults host.old) (H.faults host.new) result }
     ensures say_faults { H.say_faults host.new ≡ H.say_faults host.old }
 {
@@ -65,7 +64,8 @@ pub(crate) fn read_slot<H: Host>(
     slot: Slot,
 ) -> Result<SlotPage, Failed>
     requires place { IsSlotPlace place }
-    requires within { H.tells → IsWithin (H.disk host.old).seen place.device (8192 * place.page) 16384 }
+    requires within { H.tells → IsWithin (H.disk host.old).seen place.device (8192 * place.page)
+        16384 }
     ensures calm { H.tells → Goes (H.disk host.old) (H.disk host.new) Agree }
     ensures seen { H.tells → Agree (H.disk host.old).seen (H.disk host.new).seen }
     ensures page { IfOk result (λ page. H.tells → IsPageOf (H.disk host.old).seen place slot page) }
@@ -77,7 +77,7 @@ pub(crate) fn read_slot<H: Host>(
     host.read(place.device, place.start(slot), &mut page)?;
     let (body, gate) = page.split_at(8191);
     Ok(SlotPage {
-        is_open: gate[0] == OPEN,
+        is_open: gate[0] == OPEN_GATE,
         body: decode_body(place.device, body),
     })
 }
@@ -88,12 +88,16 @@ pub(crate) fn read_slots<H: Host>(
     place: SlotPlace,
 ) -> Result<(SlotPage, SlotPage), Failed>
     requires place { IsSlotPlace place }
-    requires within { H.tells → IsWithin (H.disk host.old).seen place.device (8192 * place.page) 16384 }
+    requires within { H.tells → IsWithin (H.disk host.old).seen place.device (8192 * place.page)
+        16384 }
     ensures calm { H.tells → Goes (H.disk host.old) (H.disk host.new) Agree }
     ensures seen { H.tells → Agree (H.disk host.old).seen (H.disk host.new).seen }
-    ensures first { IfOk result (λ pages. H.tells → IsPageOf (H.disk host.old).seen place First pages.0) }
-    ensures second { IfOk result (λ pages. H.tells → IsPageOf (H.disk host.old).seen place Second pages.1) }
-    ensures kept { IfOk result (λ pages. HasKept place.device pages.0 × HasKept place.device pages.1) }
+    ensures first { IfOk result (λ pages. H.tells
+        → IsPageOf (H.disk host.old).seen place First pages.0) }
+    ensures second { IfOk result (λ pages. H.tells
+        → IsPageOf (H.disk host.old).seen place Second pages.1) }
+    ensures kept { IfOk result (λ pages. HasKept place.device pages.0
+        × HasKept place.device pages.1) }
     ensures cause { HasCause (H.faults host.old) (H.faults host.new) result }
     ensures say_faults { H.say_faults host.new ≡ H.say_faults host.old }
 {
@@ -110,15 +114,17 @@ fn close_gate<H: Host>(
     is_open: bool,
 ) -> Result<(), Failed>
     requires place { IsSlotPlace place }
-    requires within { H.tells → IsWithin (H.disk host.old).seen place.device (8192 * place.page) 16384 }
+    requires within { H.tells → IsWithin (H.disk host.old).seen place.device (8192 * place.page)
+        16384 }
     ensures goes { H.tells → Goes (H.disk host.old) (H.disk host.new) (Closes place slot is_open) }
     ensures seen { H.tells → SlotsTorn place (H.disk host.old).seen (H.disk host.new).seen }
-    ensures shut { OnOk result (H.tells → Arrives (H.disk host.old) (H.disk host.new) (Empties place slot is_open)) }
+    ensures shut { OnOk result (H.tells → Arrives (H.disk host.old) (H.disk host.new)
+        (Empties place slot is_open)) }
     ensures cause { HasCause (H.faults host.old) (H.faults host.new) result }
     ensures say_faults { H.say_faults host.new ≡ H.say_faults host.old }
 {
     if is_open {
-        return write_kept(host, place.device, place.gate(slot), &[CLOSED]);
+        return write_kept(host, place.device, place.gate(slot), &[CLOSED_GATE]);
     }
     Ok(())
 }
@@ -133,10 +139,14 @@ fn write_body<H: Host>(
     requires place { IsSlotPlace place }
     requires kind { IsFor place.device body.now }
     requires keeps { KeepsBody body.now }
-    requires within { H.tells → IsWithin (H.disk host.old).seen place.device (8192 * place.page) 16384 }
-    ensures goes { H.tells → Goes (H.disk host.old) (H.disk host.new) (Torn place.device (start_of place slot) slot_len) }
+    requires within { H.tells → IsWithin (H.disk host.old).seen place.device (8192 * place.page)
+        16384 }
+    ensures goes { H.tells → Goes (H.disk host.old) (H.disk host.new)
+        (Torn place.device (start_of place slot) slot_len) }
     ensures seen { H.tells → SlotsTorn place (H.disk host.old).seen (H.disk host.new).seen }
-    ensures kept { OnOk result (H.tells → (image : Image) → (H.disk host.new).may_leave (H.disk host.new).now image → body_of place.device (body_in image place slot) ≡ Some body.now) }
+    ensures kept { OnOk result (H.tells → (image : Image)
+        → (H.disk host.new).may_leave (H.disk host.new).now image
+        → body_of place.device (body_in image place slot) ≡ Some body.now) }
     ensures cause { HasCause (H.faults host.old) (H.faults host.new) result }
     ensures say_faults { H.say_faults host.new ≡ H.say_faults host.old }
 {
@@ -148,14 +158,18 @@ fn write_body<H: Host>(
 /// Opens the gate of a slot, and makes the device keep it.
 fn open_slot<H: Host>(host: &mut H, place: SlotPlace, slot: Slot) -> Result<(), Failed>
     requires place { IsSlotPlace place }
-    requires within { H.tells → IsWithin (H.disk host.old).seen place.device (8192 * place.page) 16384 }
-    ensures goes { H.tells → Goes (H.disk host.old) (H.disk host.new) (Torn place.device (start_of place slot + slot_len) 1) }
+    requires within { H.tells → IsWithin (H.disk host.old).seen place.device (8192 * place.page)
+        16384 }
+    ensures goes { H.tells → Goes (H.disk host.old) (H.disk host.new)
+        (Torn place.device (start_of place slot + slot_len) 1) }
     ensures seen { H.tells → SlotsTorn place (H.disk host.old).seen (H.disk host.new).seen }
-    ensures kept { OnOk result (H.tells → (image : Image) → (H.disk host.new).may_leave (H.disk host.new).now image → gate_in image place slot ≡ open_gate) }
+    ensures kept { OnOk result (H.tells → (image : Image)
+        → (H.disk host.new).may_leave (H.disk host.new).now image
+        → gate_in image place slot ≡ open_gate) }
     ensures cause { HasCause (H.faults host.old) (H.faults host.new) result }
     ensures say_faults { H.say_faults host.new ≡ H.say_faults host.old }
 {
-    write_kept(host, place.device, place.gate(slot), &[OPEN])
+    write_kept(host, place.device, place.gate(slot), &[OPEN_GATE])
 }
 
 /// Puts a record in one slot: closes its gate where it is open, writes the body, opens the gate.
@@ -171,10 +185,13 @@ pub(crate) fn replace<H: Host>(
     requires place { IsSlotPlace place }
     requires kind { IsFor place.device body.now }
     requires keeps { KeepsBody body.now }
-    requires within { H.tells → IsWithin (H.disk host.old).seen place.device (8192 * place.page) 16384 }
-    ensures goes { H.tells → Goes (H.disk host.old) (H.disk host.new) (Replaces place slot is_open body.now) }
+    requires within { H.tells → IsWithin (H.disk host.old).seen place.device (8192 * place.page)
+        16384 }
+    ensures goes { H.tells → Goes (H.disk host.old) (H.disk host.new)
+        (Replaces place slot is_open body.now) }
     ensures seen { H.tells → SlotsTorn place (H.disk host.old).seen (H.disk host.new).seen }
-    ensures there { OnOk result (H.tells → Arrives (H.disk host.old) (H.disk host.new) (Replaced place slot body.now)) }
+    ensures there { OnOk result (H.tells
+        → Arrives (H.disk host.old) (H.disk host.new) (Replaced place slot body.now)) }
     ensures cause { HasCause (H.faults host.old) (H.faults host.new) result }
     ensures say_faults { H.say_faults host.new ≡ H.say_faults host.old }
 {

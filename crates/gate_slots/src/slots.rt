@@ -31,17 +31,23 @@ impl Slots {
     /// write also as each image has it.
     pub fn read<H: Host>(host: &mut H, place: SlotPlace) -> Result<(Slots, SlotBody), SlotFault>
         requires place { IsSlotPlace place }
-        requires within { H.tells → IsWithin (H.disk host.old).seen place.device (8192 * place.page) 16384 }
-        ensures ready { IfOk result (λ found. H.tells → IsReady found.0 found.1 (H.disk host.old).seen) }
-        ensures force { IfOk result (λ found. H.tells → in_force (H.disk host.old).seen place ≡ Some found.1) }
+        requires within { H.tells → IsWithin (H.disk host.old).seen place.device (8192 * place.page)
+            16384 }
+        ensures ready { IfOk result (λ found. H.tells
+            → IsReady found.0 found.1 (H.disk host.old).seen) }
+        ensures force { IfOk result (λ found. H.tells
+            → in_force (H.disk host.old).seen place ≡ Some found.1) }
         ensures synced { IfOk result (λ found. H.tells → Synced (H.disk host.old) place.device
-            → (image : Image) → (H.disk host.new).may_leave (H.disk host.new).now image → IsReady found.0 found.1 image) }
+            → (image : Image) → (H.disk host.new).may_leave (H.disk host.new).now image
+            → IsReady found.0 found.1 image) }
         ensures found { IfOk result (λ found. IsFound place found.0 found.1) }
-        ensures none { result ≡ Err SlotFault.NoSlot → H.tells → in_force (H.disk host.old).seen place ≡ None }
+        ensures none { result ≡ Err SlotFault.NoSlot → H.tells
+            → in_force (H.disk host.old).seen place ≡ None }
         ensures calm { H.tells → Goes (H.disk host.old) (H.disk host.new) Agree }
         ensures seen { H.tells → Agree (H.disk host.old).seen (H.disk host.new).seen }
         ensures later { H.faults host.old ≤ H.faults host.new }
-        ensures cause { result ≡ Err SlotFault.Failed → Rose (H.faults host.old) (H.faults host.new) }
+        ensures cause { result ≡ Err SlotFault.Failed
+            → Rose (H.faults host.old) (H.faults host.new) }
         ensures say_faults { H.say_faults host.new ≡ H.say_faults host.old }
     {
         let Ok((first, second)) = read_slots(host, place) else {
@@ -53,18 +59,23 @@ impl Slots {
         Ok(found)
     }
 
-    /// Puts the first record in force, in the first slot: closes its gate where it is open, writes the
-    /// body, opens the gate, each with a sync behind it. The second slot is left as it is. After a
-    /// fault of a device the record is in force or not, until the slots are read.
+    /// Puts the first record in force, in the first slot: closes its gate where it is open, writes
+    /// the body, opens the gate, each with a sync behind it. The second slot is left as it is.
+    /// After a fault of a device the record is in force or not, until the slots are read.
     pub fn first<H: Host>(host: &mut H, place: SlotPlace, body: &SlotBody) -> Result<Slots, Failed>
         requires place { IsSlotPlace place }
         requires kind { IsFor place.device body.now }
         requires keeps { KeepsBody body.now }
         requires number { slot_number body.now ≡ 1 }
-        requires within { H.tells → IsWithin (H.disk host.old).seen place.device (8192 * place.page) 16384 }
-        ensures any_moment { H.tells → Goes (H.disk host.old) (H.disk host.new) (Begins (H.disk host.old).seen place body.now) }
-        ensures there { IfOk result (λ slots. H.tells → Arrives (H.disk host.old) (H.disk host.new) (Begun (H.disk host.old).seen slots body.now)) }
-        ensures slots { IfOk result (λ slots. (slots.place ≡ place) × (slots.number ≡ 1) × (slots.current ≡ First)) }
+        requires within { H.tells → IsWithin (H.disk host.old).seen place.device (8192 * place.page)
+            16384 }
+        ensures any_moment { H.tells → Goes (H.disk host.old) (H.disk host.new)
+            (Begins (H.disk host.old).seen place body.now) }
+        ensures there { IfOk result (λ slots. H.tells
+            → Arrives (H.disk host.old) (H.disk host.new)
+            (Begun (H.disk host.old).seen slots body.now)) }
+        ensures slots { IfOk result (λ slots. (slots.place ≡ place) × (slots.number ≡ 1)
+            × (slots.current ≡ First)) }
         ensures seen { H.tells → SlotsTorn place (H.disk host.old).seen (H.disk host.new).seen }
         ensures cause { HasCause (H.faults host.old) (H.faults host.new) result }
         ensures say_faults { H.say_faults host.new ≡ H.say_faults host.old }
@@ -81,19 +92,29 @@ impl Slots {
 
     /// Puts the next record in force, in the slot that is not: closes its gate where it is open,
     /// writes the body, opens the gate, each with a sync behind it. After a fault of a device the
-    /// record that was in force still is, or the next one, until the slots are read; this value then
-    /// is as it was, and no longer tells of them.
+    /// record that was in force still is, or the next one, until the slots are read; this value
+    /// then is as it was, and no longer tells of them.
     pub fn switch<H: Host>(&mut self, host: &mut H, body: &SlotBody) -> Result<(), Failed>
         requires place { IsSlotPlace self.old.place }
         requires kind { IsFor self.old.place.device body.now }
         requires keeps { KeepsBody body.now }
         requires number { slot_number body.now ≡ self.old.number + 1 }
-        requires within { H.tells → IsWithin (H.disk host.old).seen self.old.place.device (8192 * self.old.place.page) 16384 }
-        ensures any_moment { H.tells → Goes (H.disk host.old) (H.disk host.new) (Switches self.old body.now) }
-        ensures there { OnOk result (H.tells → Arrives (H.disk host.old) (H.disk host.new) (Switched self.old self.new body.now)) }
-        ensures ok { OnOk result (self.new ≡ record self.old { number = self.old.number + 1; current = other_of self.old.current; other_open = true }) }
+        requires within { H.tells → IsWithin (H.disk host.old).seen self.old.place.device
+            (8192 * self.old.place.page) 16384 }
+        ensures any_moment { H.tells → Goes (H.disk host.old) (H.disk host.new)
+            (Switches self.old body.now) }
+        ensures there { OnOk result (H.tells
+            → Arrives (H.disk host.old) (H.disk host.new) (Switched self.old self.new body.now)) }
+        ensures ok { OnOk result (self.new
+            ≡ record self.old {
+              number = self.old.number
+                  + 1;
+              current = other_of self.old.current;
+              other_open = true;
+            }) }
         ensures err { OnErr result (self.new ≡ self.old) }
-        ensures seen { H.tells → SlotsTorn self.old.place (H.disk host.old).seen (H.disk host.new).seen }
+        ensures seen { H.tells → SlotsTorn self.old.place (H.disk host.old).seen
+            (H.disk host.new).seen }
         ensures cause { HasCause (H.faults host.old) (H.faults host.new) result }
         ensures say_faults { H.say_faults host.new ≡ H.say_faults host.old }
     {

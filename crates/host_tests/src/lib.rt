@@ -1,4 +1,4 @@
-//! Tests of the hosts and sources, in memory and over real files.
+//! For tests of what calls a host: calls that no caller can misuse, and a host that tells nothing.
 #![tactic(auto)]
 
 ghost use Rattle.std.specs.Prelude.{◌≡◌, ◌≤◌, ℕ, None, IsTrue};
@@ -6,8 +6,9 @@ ghost use Rattle.mdb_host.specs.Disk.{IsWithin, IsThere};
 
 use mdb_host::{Device, Failed, Host};
 
-#[cfg(test)]
-mod tests;
+mod mute;
+
+pub use mute::{MuteHost, new_area};
 
 fn has_room<H: Host>(host: &H, device: Device, at: u64, len: usize) -> bool
     ensures bounded { IsTrue result → len ≤ 8192 }

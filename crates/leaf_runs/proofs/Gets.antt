@@ -108,7 +108,7 @@ chain_none : (pages : PageBytes) (table : ℕ) (back : List Leaf) → IsChain pa
 chain_none pages table [] chain none = refl
 chain_none pages table (l ∷ ls) chain none = let real = chain.0.real in absurd (omega arith)
 
--- rows of a list that begins with greater keys are behind
+-- rows of a list that begins with greater keys are after
 not_all : (after : List ℕ) (xs ys : List Row) → 0 < length xs → T (below_all by_bytes after (xs ++ ys)) → not_behind after xs ≡ true → ⊥
 not_all after [] ys some high low = omega arith
 not_all after (x ∷ xs) ys some high low =
@@ -143,7 +143,7 @@ module _ (pages : PageBytes) (table : ℕ) (entry : CatalogueEntry) (leaves : Li
     by_back [] c none = absurd (more none)
     by_back (l ∷ ls) c same = subst (HasRunLeaf pages table) (sym same) (run_leaf_there pages table (first_page ls) l c.0)
 
-  -- what was scanned is the first row of the table behind the key
+  -- what was scanned is the first row of the table after the key
   pub scan_first : (found : Bool) (key value_of_key : List ℕ) → IsScanned pages page after found key value_of_key → IsFirst (λ k. find by_bytes k (run_rows leaves)) after found key value_of_key
   scan_first found key v s = by_case s.scanned where
     same : s.leaf ≡ leaf_value table spot.here (first_page spot.back)

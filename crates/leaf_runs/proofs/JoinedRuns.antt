@@ -50,7 +50,7 @@ module _ (pages : PageBytes) (table : ℕ) where
   front_apart (l ∷ front) middle x back c =
       (not_later l (front ++ (middle ++ x ∷ back)) c (front ++ middle) x back (sym (append_assoc front middle (x ∷ back))), front_apart front middle x back c.1)
 
-  -- those behind it
+  -- those after it
   pub back_apart : (x : Leaf) (a : List Leaf) → IsLooseChain pages table (x ∷ a) → (b c : List Leaf) → a ≡ b ++ c → AllByRecursion (λ (l : Leaf). l.page ≡ x.page → ⊥) c
   back_apart x a p b [] is = tt
   back_apart x a p b (y ∷ c) is = (λ same. not_later x a p b y c is (sym same), back_apart x a p (b ++ y ∷ []) c (is ∙ sym (append_assoc b (y ∷ []) c)))
@@ -139,7 +139,7 @@ joined_rows front a b rest =
 
 module _ (pages pages2 : PageBytes) (table : ℕ) (front : List Leaf) (a b : Leaf) (rest : List Leaf) (run : IsLooseRun pages table (front ++ a ∷ b ∷ rest))
     (is : IsJoinedTo pages pages2 a.page b.page (leaf_value table a b.page) (leaf_value table b (first_page rest))) where
-  -- the two leaves and those behind them
+  -- the two leaves and those after them
   both_stand : LeafIsAt pages table a b.page × (LeafIsAt pages table b (first_page rest) × IsLooseChain pages table rest)
   both_stand = loose_right pages table front (a ∷ b ∷ rest) run.linked
 
@@ -213,7 +213,7 @@ pub filled_grown : (a b : Leaf) (leaves : List Leaf) → rows_cost a.rows ≤ ro
 filled_grown a b [] le filled = tt
 filled_grown a b (l ∷ leaves) le filled = let two : page_room < rows_cost a.rows + rows_cost l.rows = filled.0 in (omega arith, filled.1)
 
--- leaves go on behind others where the first of them is no smaller than the last of these
+-- leaves go on after others where the first of them is no smaller than the last of these
 pub filled_on : (front : List Leaf) (a b : Leaf) (leaves : List Leaf) → rows_cost a.rows ≤ rows_cost b.rows → Neighbours FillTwo (front ++ a ∷ []) → Neighbours FillTwo (b ∷ leaves) → Neighbours FillTwo (front ++ b ∷ leaves)
 filled_on [] a b leaves le filled behind = behind
 filled_on (l ∷ []) a b leaves le filled behind = let two : page_room < rows_cost l.rows + rows_cost a.rows = filled.0 in (omega arith, behind)
@@ -243,7 +243,7 @@ module _ (pages : PageBytes) (table first : ℕ) (here : Leaf) (page_is : here.p
       (is.2 ∙ ap (λ (v : RowLeaf). rows_cost v.rows) same, is.3 ∙ ap (λ (v : RowLeaf). v.next) same)
 
 module _ (pages : PageBytes) (table first : ℕ) (front : List Leaf) (here : Leaf) (page_is : here.page ≡ first) where
-  -- the leaf and those behind it
+  -- the leaf and those after it
   pub run_stands : (back : List Leaf) → IsLooseRun pages table (front ++ here ∷ back) → LeafIsAt pages table here (first_page back) × IsLooseChain pages table back
   run_stands back run = loose_right pages table front (here ∷ back) run.linked
 

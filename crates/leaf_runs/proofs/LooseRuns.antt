@@ -35,7 +35,7 @@ abbrev pub pages_of : List Leaf → List ℕ
 pages_of leaves = map (λ (leaf : Leaf). leaf.page) leaves
 
 module _ (n : ℕ) where
-  -- a page of the first leaves, or of the ones behind them, is one of both
+  -- a page of the first leaves, or of the ones after them, is one of both
   pub on_left : (a b : List Leaf) → IsOn a n → IsOn (a ++ b) n
   on_left [] b on = absurd on
   on_left (x ∷ a) b on = elim on [ inl e ↦ inl e | inr more ↦ inr (on_left a b more) ]
@@ -44,7 +44,7 @@ module _ (n : ℕ) where
   on_right [] b on = on
   on_right (x ∷ a) b on = inr (on_right a b on)
 
-  -- a page of both is one of the first leaves or of the ones behind them
+  -- a page of both is one of the first leaves or of the ones after them
   pub on_either : (a b : List Leaf) → IsOn (a ++ b) n → IsOn a n ⊎ IsOn b n
   on_either [] b on = inr on
   on_either (x ∷ a) b on = elim on [ inl e ↦ inl (inl e) | inr more ↦ elim (on_either a b more) [ inl in_a ↦ inl (inr in_a) | inr in_b ↦ inr in_b ] ]
@@ -75,7 +75,7 @@ module _ (n : ℕ) where
     by_test more true e = inl (eqb-true x.page n e)
     by_test more false e = inr (more (Contains-tail x.page (pages_of a) n (λ same. absurd (let yes : eqb x.page n ≡ true = eq-eqb x.page n same in let wrong : false ≡ true = sym e ∙ yes in cc)) c))
 
-  -- the leaves before the one on the page, and those behind it
+  -- the leaves before the one on the page, and those after it
   pub cut_at : (a : List Leaf) → IsOn a n → (b : List Leaf) × (y : Leaf) × (c : List Leaf) × (a ≡ b ++ y ∷ c) × (y.page ≡ n)
   cut_at [] on = absurd on
   cut_at (x ∷ a) on = elim on [
@@ -103,7 +103,7 @@ abbrev pub IsLinked : PageBytes → (table : ℕ) → List Leaf → (next : ℕ)
 IsLinked pages table [] next = Unit {0}
 IsLinked pages table (leaf ∷ leaves) next = LeafIsAt pages table leaf (first_or leaves next) × IsLinked pages table leaves next
 
--- the first page of leaves with others behind them
+-- the first page of leaves with others after them
 pub first_page-append : (a b : List Leaf) → first_page (a ++ b) ≡ first_or a (first_page b)
 first_page-append [] b = refl
 first_page-append (x ∷ a) b = refl
@@ -213,7 +213,7 @@ module _ (pages pages2 : PageBytes) (table : ℕ) (front mid mid2 back : List Le
   stays : (n : ℕ) (leaf : RowLeaf) → leaf_at pages n ≡ Some leaf → (IsOn mid n → ⊥) → get pages2 n ≡ get pages n
   stays n leaf there out = s.others n out (λ on2. elim (s.fresh n on2) [ inl on ↦ out on | inr none ↦ no_leaf_at pages n leaf none there ])
 
-  -- the pages before them and behind them stay
+  -- the pages before them and after them stay
   front_stays : (n : ℕ) → IsOn front n → get pages2 n ≡ get pages n
   front_stays n on =
       let l = linked_leaf pages table front (first_page (mid ++ back)) n front_linked on in

@@ -1,5 +1,5 @@
 -- The space rule bounds the leaves of a run.
---     leaf_bound      so many leaves where the rows cost this much
+--     leaf_bound      this many leaves where the rows cost this much
 --     cost_of_table      what the rows of a table cost
 --     page_bound      the pages of a table are no more than the space rule counts
 use Rattle.std.proofs.Common.{◌≡◌, refl, sym, ap, subst, ◌∙◌, ℕ, suc, ◌+◌, ◌*◌, ◌<◌, ◌≤◌, Bool, true, false, cond, not, T, List, [], ◌∷◌, ◌++◌, map, filter, length, max, Some, None, arith, append_assoc, eqb-true, eq-eqb}
@@ -61,7 +61,7 @@ over n cost some small large = by_zero (cost == 0) refl where
   by_zero true e = let none : cost ≡ 0 = eqb-true cost 0 e in absurd (omega arith)
   by_zero false e = by_small (nat_le cost 8128) refl
 
--- so many leaves where the rows cost no more than this
+-- this many leaves where the rows cost no more than this
 pub leaf_bound : (pages : PageBytes) (table cost : ℕ) (leaves : List Leaf) → IsChain pages table leaves → Neighbours FillTwo leaves → rows_cost (run_rows leaves) ≤ cost → length leaves ≤ table_pages cost
 leaf_bound pages table cost [] chain filled le = omega arith
 leaf_bound pages table cost (l ∷ []) chain filled le =

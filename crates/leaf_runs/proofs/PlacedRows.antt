@@ -118,7 +118,7 @@ find_left key (x ∷ xs) ys e = by_test (find_left key xs ys) (eq_by_cmp by_byte
   by_test more true e = absurd cc
   by_test more false e = more e
 
--- rows of which none is behind a key and none has it are below it
+-- rows of which none is after a key and none has it are below it
 low_from : (key : List ℕ) (xs : List Row) → not_behind key xs ≡ true → find by_bytes key xs ≡ None → all_below key xs ≡ true
 low_from key [] low none = refl
 low_from key (x ∷ xs) low none = by_case (low_from key xs) (by_bytes x.0 key) refl where
@@ -267,7 +267,7 @@ module _ (pages pages2 pages3 : PageBytes) (table page other at : ℕ) (leaf : R
   pub may_split : MaySplit pages3 table page other at
   may_split = (leaf, blank_leaf table other, split_named, split_blank, refl, split_within)
 
-  -- the rows behind the key were moved to the new leaf
+  -- the rows after the key were moved to the new leaf
   pub cut_off : (pages4 : PageBytes) → IsSplitOff pages3 pages4 page other at leaf (blank_leaf table other) → IsCutOff pages pages4 table page leaf key other
   cut_off pages4 s = record {
     at = at;

@@ -71,7 +71,7 @@ sorted_right (x ∷ xs) ys p = sorted_right xs ys (t_right _ _ p)
 pub sorted_middle : (xs ys zs : List Row) → T (is_sorted by_bytes (xs ++ (ys ++ zs))) → T (is_sorted by_bytes ys)
 sorted_middle xs ys zs p = sorted_left ys zs (sorted_right xs (ys ++ zs) p)
 
--- where not all rows are below a key, those behind are above it
+-- where not all rows are below a key, those after are above it
 pub above_rest : (k : List ℕ) (xs ys : List Row) → T (is_sorted by_bytes (xs ++ ys)) → all_below k xs ≡ false → T (below_all by_bytes k ys)
 above_rest k [] ys up never = absurd cc
 above_rest k (x ∷ xs) ys up never = by_order_of (above_rest k xs ys (t_right _ _ up)) (by_bytes x.0 k) refl where

@@ -1,7 +1,7 @@
--- The first row behind a key.
---     cut_at, cut_gap      where the rows behind a key begin in a leaf
+-- The first row after a key.
+--     cut_at, cut_gap      where the rows after a key begin in a leaf
 --     behind_at, behind_none      the first of them, or none
---     first_in, none_in      the first row behind a key in a sorted list
+--     first_in, none_in      the first row after a key in a sorted list
 use Rattle.std.proofs.Common.{◌≡◌, refl, sym, ap, subst, ◌∙◌, ℕ, zero, suc, ◌+◌, ◌<◌, ◌≤◌, true, false, not, cond, T, List, [], ◌∷◌, ◌++◌, length, take, drop, get_or, Some, arith}
 use Rattle.std.specs.Prelude.{slice_get}
 use Rattle.std.proofs.lemmas.List.{take-append-drop, append-nil}
@@ -96,12 +96,12 @@ pub behind_both : (after : List ℕ) (xs ys : List Row) → not_behind after xs 
 behind_both after [] ys p q = q
 behind_both after (x ∷ xs) ys p q = to_true _ (t_both _ _ (t_left _ _ (from_true _ p)) (from_true _ (behind_both after xs ys (to_true _ (t_right _ _ (from_true _ p))) q)))
 
--- keys below another one are not behind it
+-- keys below another one are not after it
 pub from_lower : (after : List ℕ) (rows : List Row) → all_below after rows ≡ true → not_behind after rows ≡ true
 from_lower after [] p = refl
 from_lower after (x ∷ xs) p = to_true _ (t_both _ _ (from_true _ (not_greater _ (first_less after x xs p))) (from_true _ (from_lower after xs (rest_less after x xs p))))
 
--- a key behind the other one is not among rows that are not
+-- a key after the other one is not among rows that are not
 skip : (after k : List ℕ) (xs ys : List Row) → by_bytes after k ≡ Less → not_behind after xs ≡ true → find by_bytes k (xs ++ ys) ≡ find by_bytes k ys
 skip after k [] ys behind low = refl
 skip after k (x ∷ xs) ys behind low =

@@ -58,7 +58,7 @@ module _ (pages : PageBytes) (table : ℕ) where
 
 -- Tries
 
--- The leaves from a place on fill two pages each now, with the same rows from the same page on; so many were joined.
+-- The leaves from a place on fill two pages each now, with the same rows from the same page on; this many were joined.
 pub record IsTried (pages pages2 : PageBytes) (table : ℕ) (front tail : List Leaf) (joined : ℕ) : Type 0 where
   pub tail2 : List Leaf
   pub rewrites : Rewrites pages pages2 table (front ++ tail2)
@@ -67,7 +67,7 @@ pub record IsTried (pages pages2 : PageBytes) (table : ℕ) (front tail : List L
   pub filled : Neighbours FillTwo tail2
   pub count : length tail2 + joined ≡ length tail
 
--- the leaves behind the first one of a change were tried
+-- the leaves after the first one of a change were tried
 pub record IsHalfTried (pages pages2 : PageBytes) (table : ℕ) (front parts back : List Leaf) (page joined : ℕ) : Type 0 where
   pub here : Leaf
   pub more : List Leaf
@@ -86,7 +86,7 @@ last_of (leaf ∷ next ∷ leaves) = by_rest (last_of (next ∷ leaves)) where
   by_rest (inr l) = inr (leaf ∷ l.0, l.1, ap (λ (ls : List Leaf). leaf ∷ ls) l.2, l.3)
 
 module _ (pages : PageBytes) (table : ℕ) where
-  -- the leaf behind the first one of a change
+  -- the leaf after the first one of a change
   pub other_here : (front parts back : List Leaf) (before : Option ℕ) (page : ℕ) (other : Option ℕ) → IsChangedRun pages table front parts back before page other → HasOptionHere pages table other
   other_here front parts back before page None changed = tt
   other_here front parts back before page (Some other) changed =

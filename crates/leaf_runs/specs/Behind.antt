@@ -1,8 +1,9 @@
--- Rows behind a key.
+-- Rows after a key.
 --     not_behind      no key of the rows is greater than this one
---     IsCut      where the rows behind a key begin
---     IsBehind      the first row behind a key, or none
-use Rattle.std.specs.Prelude.{◌≡◌, ℕ, ◌≤◌, List, ◌∷◌, ◌++◌, T, Bool, true, false, not, length, take, drop}
+--     IsCut      where the rows after a key begin
+--     IsBehind      the first row after a key, or none
+use Rattle.std.specs.Prelude.{◌≡◌, ℕ, ◌≤◌, ◌∷◌, ◌++◌}
+use Rattle.std.specs.Prelude.{List, T, Bool, true, false, not, length, take, drop}
 use Rattle.std.specs.List.{list_all}
 use Rattle.std.specs.Ordering.{is_gt}
 use Rattle.std.specs.FinMap.Entries.{below_all}
@@ -13,14 +14,15 @@ use Rattle.leaf_runs.specs.Leaves.{by_bytes}
 abbrev pub not_behind : List ℕ → List Row → Bool
 not_behind after rows = list_all (λ row. not (is_gt (by_bytes row.0 after))) rows
 
--- the rows from the place on are behind the key, and those before it are not
+-- the rows from the place on are after the key, and those before it are not
 pub record IsCut (rows : List Row) (after : List ℕ) (at : ℕ) : Type 0 where
   pub within : at ≤ length rows
   pub lower : not_behind after (take at rows) ≡ true
   pub higher : T (below_all by_bytes after (drop at rows))
 
--- this is the first row behind the key, or there is none
+-- this is the first row after the key, or there is none
 abbrev pub IsBehind : (found : Bool) → List Row → (after key value : List ℕ) → Type 0
 IsBehind true rows after key value =
-    (front : List Row) × (back : List Row) × (rows ≡ front ++ (key, value) ∷ back) × (not_behind after front ≡ true) × T (below_all by_bytes after ((key, value) ∷ back))
+    (front : List Row) × (back : List Row) × (rows ≡ front ++ (key, value) ∷ back)
+    × (not_behind after front ≡ true) × T (below_all by_bytes after ((key, value) ∷ back))
 IsBehind false rows after key value = not_behind after rows ≡ true

@@ -1,11 +1,15 @@
 -- What a change makes of a table and of its entry in the catalogue.
---     with_entry, IsEntrySet, SetsEntry      the catalogue with another entry of one table; page 0 says so now
+--     with_entry, IsEntrySet, SetsEntry      the catalogue with another entry of one table; page 0
+--         says so now
 --     IsWholeRun, HasWholeRun, HasSomeRun      a table on its leaves, and on no other page
 --     IsNewRun      a table has these rows now, on leaves as its new entry says
---     IsSettledRun, IsTakenRun      such leaves on the way, of which an only one may be without rows
+--     IsSettledRun, IsTakenRun      such leaves on the way, of which an only one may be without
+--         rows
 --     leaves_added      how many leaves a change has added
 --     IsFound, HasFound      where a key stands or would stand, and what its row costs
-use Rattle.std.specs.Prelude.{◌≡◌, ℕ, ◌-◌, ◌<◌, ◌^◌, List, Bool, true, false, Option, Some, None, length, map, slice_set, Contains}
+use Rattle.std.specs.Prelude.{◌≡◌, ℕ, ◌-◌, ◌<◌, ◌^◌}
+use Rattle.std.specs.Prelude.{List, Bool, true, false, Option, Some, None, length, map, slice_set}
+use Rattle.std.specs.Prelude.{Contains}
 use Rattle.std.specs.FinMap.{get}
 use Rattle.mdb_bytes.specs.declared.logical_pages.CatalogueEntry.{CatalogueEntry}
 use Rattle.mdb_bytes.specs.declared.logical_pages.Catalogue.{Catalogue}
@@ -13,17 +17,22 @@ use Rattle.mdb_bytes.specs.TablePages.{Row, RowLeaf, rows_cost}
 use Rattle.mdb_bytes.specs.PageReadings.{catalogue_of}
 use Rattle.mdb_bytes.specs.Forms.{Neighbours}
 use Rattle.mdb_bytes.specs.Paged.{PageBytes}
-use Rattle.leaf_runs.specs.Runs.{Leaf, run_rows, first_page, leaf_at, catalogue_at, FillTwo, IsTableRun, IsSpot}
+use Rattle.leaf_runs.specs.Runs.{Leaf, run_rows, first_page, leaf_at, catalogue_at, FillTwo}
+use Rattle.leaf_runs.specs.Runs.{IsTableRun, IsSpot}
 use Rattle.leaf_runs.specs.Loose.{IsLooseRun, StaysBesideTable, row_cost_of}
 
 -- the catalogue with this entry of the table
 abbrev pub with_entry : Catalogue → (table : ℕ) → CatalogueEntry → Catalogue
-with_entry catalogue table entry = record { entries = slice_set catalogue.entries (table - 1) entry }
+with_entry catalogue table entry =
+    record { entries = slice_set catalogue.entries (table - 1) entry }
 
 -- the entry was set; or the page is no catalogue, or an entry has no room for the cost
 abbrev pub IsEntrySet : (done : Bool) → (table : ℕ) → CatalogueEntry → (old new : List ℕ) → Type 0
-IsEntrySet true table entry old new = (catalogue : Catalogue) × (catalogue_of old ≡ Some catalogue) × (catalogue_of new ≡ Some (with_entry catalogue table entry))
-IsEntrySet false table entry old new = (catalogue : Catalogue) → catalogue_of old ≡ Some catalogue → entry.cost < 2 ^ 62 → ⊥
+IsEntrySet true table entry old new =
+    (catalogue : Catalogue) × (catalogue_of old ≡ Some catalogue)
+    × (catalogue_of new ≡ Some (with_entry catalogue table entry))
+IsEntrySet false table entry old new =
+    (catalogue : Catalogue) → catalogue_of old ≡ Some catalogue → entry.cost < 2 ^ 62 → ⊥
 
 -- page 0 says this of the table now, and all else is as it was
 pub record SetsEntry (pages pages2 : PageBytes) (table : ℕ) (entry : CatalogueEntry) : Type 0 where
@@ -33,9 +42,11 @@ pub record SetsEntry (pages pages2 : PageBytes) (table : ℕ) (entry : Catalogue
   pub others : (other : ℕ) → (other ≡ 0 → ⊥) → get pages2 other ≡ get pages other
 
 -- a table on these leaves as its entry says, and on no other page
-pub record IsWholeRun (pages : PageBytes) (table : ℕ) (entry : CatalogueEntry) (leaves : List Leaf) : Type 0 where
+pub record IsWholeRun (pages : PageBytes) (table : ℕ) (entry : CatalogueEntry)
+    (leaves : List Leaf) : Type 0 where
   pub run : IsTableRun pages table entry leaves
-  pub named : (number : ℕ) (leaf : RowLeaf) → leaf_at pages number ≡ Some leaf → leaf.table ≡ table → Contains (map (λ leaf. leaf.page) leaves) number
+  pub named : (number : ℕ) (leaf : RowLeaf) → leaf_at pages number ≡ Some leaf → leaf.table ≡ table
+      → Contains (map (λ leaf. leaf.page) leaves) number
 
 -- there are such leaves
 abbrev pub HasWholeRun : PageBytes → (table : ℕ) → CatalogueEntry → Type 0
@@ -43,10 +54,12 @@ HasWholeRun pages table entry = (leaves : List Leaf) × IsWholeRun pages table e
 
 -- there are such leaves, and one of them at least
 abbrev pub HasSomeRun : PageBytes → (table : ℕ) → CatalogueEntry → Type 0
-HasSomeRun pages table entry = (leaves : List Leaf) × IsWholeRun pages table entry leaves × (0 < length leaves)
+HasSomeRun pages table entry =
+    (leaves : List Leaf) × IsWholeRun pages table entry leaves × (0 < length leaves)
 
 -- a table has these rows now, on leaves as the entry says; the pages that are not of it stay
-pub record IsNewRun (pages pages2 : PageBytes) (table : ℕ) (rows : List Row) (entry : CatalogueEntry) : Type 0 where
+pub record IsNewRun (pages pages2 : PageBytes) (table : ℕ) (rows : List Row)
+    (entry : CatalogueEntry) : Type 0 where
   pub leaves : List Leaf
   pub whole : IsWholeRun pages2 table entry leaves
   pub rows_are : run_rows leaves ≡ rows
@@ -55,7 +68,8 @@ pub record IsNewRun (pages pages2 : PageBytes) (table : ℕ) (rows : List Row) (
 -- Rows taken out
 
 -- leaves of a table that fill two pages each, as its entry says
-pub record IsSettledRun (pages : PageBytes) (table : ℕ) (entry : CatalogueEntry) (leaves : List Leaf) : Type 0 where
+pub record IsSettledRun (pages : PageBytes) (table : ℕ) (entry : CatalogueEntry)
+    (leaves : List Leaf) : Type 0 where
   pub run : IsLooseRun pages table leaves
   pub some : 0 < length leaves
   pub filled : Neighbours FillTwo leaves
@@ -65,10 +79,12 @@ pub record IsSettledRun (pages : PageBytes) (table : ℕ) (entry : CatalogueEntr
 
 -- there are such leaves
 abbrev pub HasSettledRun : PageBytes → CatalogueEntry → Type 0
-HasSettledRun pages entry = (table : ℕ) × (leaves : List Leaf) × IsSettledRun pages table entry leaves
+HasSettledRun pages entry =
+    (table : ℕ) × (leaves : List Leaf) × IsSettledRun pages table entry leaves
 
 -- a table has these rows now, on such leaves; the pages that are not of it stay
-pub record IsTakenRun (pages pages2 : PageBytes) (table : ℕ) (rows : List Row) (entry : CatalogueEntry) : Type 0 where
+pub record IsTakenRun (pages pages2 : PageBytes) (table : ℕ) (rows : List Row)
+    (entry : CatalogueEntry) : Type 0 where
   pub leaves : List Leaf
   pub settled : IsSettledRun pages2 table entry leaves
   pub rows_are : run_rows leaves ≡ rows
@@ -82,10 +98,13 @@ leaves_added None = 0
 leaves_added (Some page) = 1
 
 -- the row of a key was found at its spot, with what it costs there, or it would stand there
-pub record IsFound (leaves : List Leaf) (key : List ℕ) (before : Option ℕ) (page cost : ℕ) : Type 0 where
+pub record IsFound (leaves : List Leaf) (key : List ℕ) (before : Option ℕ)
+    (page cost : ℕ) : Type 0 where
   pub spot : IsSpot leaves key before page
   pub cost_is : cost ≡ row_cost_of key (run_rows leaves)
 
 -- there are leaves of the table where it was found
-abbrev pub HasFound : PageBytes → (table : ℕ) → CatalogueEntry → (key : List ℕ) → (before : Option ℕ) → (page cost : ℕ) → Type 0
-HasFound pages table entry key before page cost = (leaves : List Leaf) × IsWholeRun pages table entry leaves × IsFound leaves key before page cost
+abbrev pub HasFound : PageBytes → (table : ℕ) → CatalogueEntry → (key : List ℕ)
+    → (before : Option ℕ) → (page cost : ℕ) → Type 0
+HasFound pages table entry key before page cost =
+    (leaves : List Leaf) × IsWholeRun pages table entry leaves × IsFound leaves key before page cost

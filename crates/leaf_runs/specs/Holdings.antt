@@ -9,4 +9,8 @@ use Rattle.leaf_runs.specs.Runs.{rows_of}
 -- the rows on the pages. There are no undo files, and no log is left
 abbrev pub holding_of : PageBytes → Holding
 holding_of pages =
-    record { rows = rows_of pages; undo = empty; log = record { name = record { birth = 0; generation = 1 }; after = 0; commits = [] } }
+    record {
+      rows = rows_of pages;
+      undo = empty;
+      log = record { name = record { birth = 0; generation = 1 }; after = 0; commits = [] };
+    }

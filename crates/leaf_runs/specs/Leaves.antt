@@ -1,7 +1,7 @@
 -- A row leaf as a sorted list of rows.
 --     by_bytes, key_of      the order of keys; the key of a row
 --     IsRunLeaf      bytes are a leaf of a table with rows, under its number
---     AllBelow      the keys of rows are below a key
+--     all_below      whether the keys of rows are below a key
 use Rattle.std.specs.Prelude.{◌≡◌, ℕ, ◌<◌, List, length, Bool, Some}
 use Rattle.std.specs.List.{list_all}
 use Rattle.std.specs.declared.cmp.Ordering.{Ordering}

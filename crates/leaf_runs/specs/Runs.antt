@@ -5,8 +5,11 @@
 --     IsTableRun      a table on its leaves, as the catalogue has it
 --     AreRuns      all tables are runs, and each leaf belongs to one
 --     rows_of      the rows on all pages
--- These say of the bytes of pages what the rules on the form of a map of pages say of pages with stamps.
-use Rattle.std.specs.Prelude.{◌≡◌, ℕ, ◌+◌, ◌-◌, ◌<◌, ◌≤◌, List, [], ◌∷◌, ◌++◌, T, Bool, true, false, ◌⊎◌, map, length, Option, Some, None, option_and_then, slice_get, Contains}
+-- These say of the bytes of pages what the rules on the form of a map of pages say of pages with
+-- stamps.
+use Rattle.std.specs.Prelude.{◌≡◌, ℕ, ◌+◌, ◌-◌, ◌<◌, ◌≤◌, [], ◌∷◌, ◌++◌, ◌⊎◌}
+use Rattle.std.specs.Prelude.{List, T, Bool, true, false, map, length, Option, Some, None}
+use Rattle.std.specs.Prelude.{option_and_then, slice_get, Contains}
 use Rattle.std.specs.List.{flat_map}
 use Rattle.std.specs.FinMap.{get, values, from_entries, is_sorted}
 use Rattle.std.specs.FinMap.Entries.{below_all}
@@ -54,7 +57,8 @@ catalogue_at pages = option_and_then catalogue_of (get pages 0)
 
 -- the leaf as its page spells it
 abbrev pub leaf_value : (table : ℕ) → Leaf → (next : ℕ) → RowLeaf
-leaf_value table leaf next = record { table = table; number = leaf.page; next = next; rows = leaf.rows }
+leaf_value table leaf next =
+    record { table = table; number = leaf.page; next = next; rows = leaf.rows }
 
 -- the leaf stands on its page, is not empty, and names this page as the next one
 pub record LeafStands (pages : PageBytes) (table : ℕ) (leaf : Leaf) (next : ℕ) : Type 0 where
@@ -66,14 +70,16 @@ pub record LeafStands (pages : PageBytes) (table : ℕ) (leaf : Leaf) (next : �
 -- each leaf names the next one, and the last one names none
 abbrev pub IsChain : PageBytes → (table : ℕ) → List Leaf → Type 0
 IsChain pages table [] = Unit {0}
-IsChain pages table (leaf ∷ leaves) = LeafStands pages table leaf (first_page leaves) × IsChain pages table leaves
+IsChain pages table (leaf ∷ leaves) =
+    LeafStands pages table leaf (first_page leaves) × IsChain pages table leaves
 
 -- the rows of two leaves do not go on one page
 abbrev pub FillTwo : Leaf → Leaf → Type 0
 FillTwo a b = page_room < rows_cost a.rows + rows_cost b.rows
 
 -- a table on these leaves, as the catalogue has it
-pub record IsTableRun (pages : PageBytes) (table : ℕ) (entry : CatalogueEntry) (leaves : List Leaf) : Type 0 where
+pub record IsTableRun (pages : PageBytes) (table : ℕ) (entry : CatalogueEntry)
+    (leaves : List Leaf) : Type 0 where
   pub begins : entry.root ≡ first_page leaves
   pub linked : IsChain pages table leaves
   pub in_order : T (is_sorted by_bytes (run_rows leaves))
@@ -81,13 +87,17 @@ pub record IsTableRun (pages : PageBytes) (table : ℕ) (entry : CatalogueEntry)
   pub count : entry.pages ≡ length leaves
   pub cost : entry.cost ≡ rows_cost (run_rows leaves)
 
--- each table is a run as the catalogue says, and each page that spells a leaf is one of its table's run
+-- each table is a run as the catalogue says, and each page that spells a leaf is one of its table's
+-- run
 pub record AreRuns (pages : PageBytes) : Type 0 where
   pub catalogue : Catalogue
   pub page_0 : catalogue_at pages ≡ Some catalogue
   pub runs : ℕ → List Leaf
-  pub tables : (table : ℕ) (entry : CatalogueEntry) → 1 ≤ table → table ≤ 500 → slice_get catalogue.entries (table - 1) ≡ Some entry → IsTableRun pages table entry (runs table)
-  pub named : (number : ℕ) (leaf : RowLeaf) → leaf_at pages number ≡ Some leaf → Contains (map (λ leaf. leaf.page) (runs leaf.table)) number
+  pub tables : (table : ℕ) (entry : CatalogueEntry) → 1 ≤ table → table ≤ 500
+      → slice_get catalogue.entries (table - 1) ≡ Some entry
+      → IsTableRun pages table entry (runs table)
+  pub named : (number : ℕ) (leaf : RowLeaf) → leaf_at pages number ≡ Some leaf
+      → Contains (map (λ leaf. leaf.page) (runs leaf.table)) number
 
 -- the rows on the pages that spell a leaf, each under its table
 abbrev pub rows_of : PageBytes → Tables
@@ -97,38 +107,53 @@ rows_of pages = from_entries (flat_map rows_on (values pages))
 
 -- the catalogue has this entry of the table
 abbrev pub HasEntry : PageBytes → (table : ℕ) → CatalogueEntry → Type 0
-HasEntry pages table entry = (catalogue : Catalogue) × (catalogue_at pages ≡ Some catalogue) × (slice_get catalogue.entries (table - 1) ≡ Some entry)
+HasEntry pages table entry =
+    (catalogue : Catalogue) × (catalogue_at pages ≡ Some catalogue)
+    × (slice_get catalogue.entries (table - 1) ≡ Some entry)
 
 -- a page is a leaf of the table with rows
 abbrev pub HasRunLeaf : PageBytes → (table number : ℕ) → Type 0
-HasRunLeaf pages table number = (bytes : List ℕ) × (get pages number ≡ Some bytes) × IsRunLeaf table number bytes
+HasRunLeaf pages table number =
+    (bytes : List ℕ) × (get pages number ≡ Some bytes) × IsRunLeaf table number bytes
 
 -- what a walk learned of a page on the way to a key
 abbrev pub IsSeen : PageBytes → (page : ℕ) → (key : List ℕ) → Sight → Type 0
-IsSeen pages page key sight = (leaf : RowLeaf) × (leaf_at pages page ≡ Some leaf) × Sees leaf key sight
+IsSeen pages page key sight =
+    (leaf : RowLeaf) × (leaf_at pages page ≡ Some leaf) × Sees leaf key sight
 
--- what a scan learned of a page: whether it has a row behind the key, and the next page
-abbrev pub IsOnward : PageBytes → (page : ℕ) → (after : List ℕ) → (found : Bool) → (next : ℕ) → (key value : List ℕ) → Type 0
-IsOnward pages page after found next key value = (leaf : RowLeaf) × (leaf_at pages page ≡ Some leaf) × (next ≡ leaf.next) × IsBehind found leaf.rows after key value
+-- what a scan learned of a page: whether it has a row after the key, and the next page
+abbrev pub IsOnward : PageBytes → (page : ℕ) → (after : List ℕ) → (found : Bool) → (next : ℕ)
+    → (key value : List ℕ) → Type 0
+IsOnward pages page after found next key value =
+    (leaf : RowLeaf) × (leaf_at pages page ≡ Some leaf) × (next ≡ leaf.next)
+    × IsBehind found leaf.rows after key value
 
--- the first row behind a key was sought on a leaf, and on the next one where it has none
-pub record IsScanned (pages : PageBytes) (page : ℕ) (after : List ℕ) (found : Bool) (key value : List ℕ) : Type 0 where
+-- the first row after a key was sought on a leaf, and on the next one where it has none
+pub record IsScanned (pages : PageBytes) (page : ℕ) (after : List ℕ) (found : Bool)
+    (key value : List ℕ) : Type 0 where
   pub leaf : RowLeaf
   pub there : leaf_at pages page ≡ Some leaf
   pub scanned : ((found ≡ true) × IsBehind true leaf.rows after key value)
-      ⊎ ((not_behind after leaf.rows ≡ true) × (((found ≡ false) × (leaf.next ≡ 0))
-      ⊎ ((leaf.next ≡ 0 → ⊥) × ((next : RowLeaf) × (leaf_at pages leaf.next ≡ Some next) × IsBehind found next.rows after key value))))
+      ⊎ ((not_behind after leaf.rows ≡ true)
+      × (((found ≡ false) × (leaf.next ≡ 0))
+      ⊎ ((leaf.next ≡ 0 → ⊥)
+      × ((next : RowLeaf) × (leaf_at pages leaf.next ≡ Some next)
+      × IsBehind found next.rows after key value))))
 
 -- a page is a leaf of the table, and so is the one that it names as the next
 abbrev pub HasTwoLeaves : PageBytes → (table number : ℕ) → Type 0
 HasTwoLeaves pages table number =
-    HasRunLeaf pages table number × ((leaf : RowLeaf) → leaf_at pages number ≡ Some leaf → (leaf.next ≡ 0 → ⊥) → HasRunLeaf pages table leaf.next)
+    HasRunLeaf pages table number
+    × ((leaf : RowLeaf) → leaf_at pages number ≡ Some leaf → (leaf.next ≡ 0 → ⊥)
+    → HasRunLeaf pages table leaf.next)
 
 -- a table that has rows stands on leaves
 abbrev pub HasLeaves : PageBytes → (table : ℕ) → CatalogueEntry → Type 0
-HasLeaves pages table entry = (leaves : List Leaf) × IsTableRun pages table entry leaves × (0 < length leaves)
+HasLeaves pages table entry =
+    (leaves : List Leaf) × IsTableRun pages table entry leaves × (0 < length leaves)
 
--- the leaf of a run where a key stands or would stand, by the page of the leaf before it and by its own page
+-- the leaf of a run where a key stands or would stand, by the page of the leaf before it and by its
+-- own page
 pub record IsSpot (leaves : List Leaf) (key : List ℕ) (before : Option ℕ) (page : ℕ) : Type 0 where
   pub front : List Leaf
   pub here : Leaf

@@ -4,7 +4,7 @@ use Rattle.mdb_bytes.specs.TablePages.{RowLeaf}
 use Rattle.leaf_runs.specs.declared.leaf.Sight.{Sight}
 use Rattle.leaf_runs.specs.Leaves.{all_below}
 
--- the key stands or would stand in this leaf, or it is behind it, and there is a next leaf
+-- the key stands or would stand in this leaf, or it is after it, and there is a next leaf
 abbrev pub StandsHere : Bool → RowLeaf → List ℕ → Type 0
 StandsHere true leaf key = (leaf.next ≡ 0) ⊎ (all_below key leaf.rows ≡ false)
 StandsHere false leaf key = (leaf.next ≡ 0 → ⊥) × (all_below key leaf.rows ≡ true)

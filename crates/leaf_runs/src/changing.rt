@@ -1,5 +1,6 @@
 //! Rows put and deleted.
-ghost use Rattle.std.specs.Prelude.{◌≡◌, ◌+◌, ◌-◌, ◌<◌, ◌≤◌, ◌^◌, ◌∷◌, [], ℕ, List, length, IsTrue, IfOk, OnOk, is_some};
+ghost use Rattle.std.specs.Prelude.{◌≡◌, ◌+◌, ◌-◌, ◌<◌, ◌≤◌, ◌^◌, ◌∷◌, [], ℕ};
+ghost use Rattle.std.specs.Prelude.{List, length, IsTrue, IfOk, OnOk, is_some};
 ghost use Rattle.std.specs.FinMap.{get, insert, remove, put as with_row};
 ghost use Rattle.mdb_model.specs.Script.{is_table, is_key, is_value};
 ghost use Rattle.mdb_bytes.specs.Held.{HasPageCause};
@@ -8,7 +9,9 @@ ghost use Rattle.leaf_runs.specs.Leaves.{by_bytes};
 ghost use Rattle.leaf_runs.specs.Edits.{without};
 ghost use Rattle.leaf_runs.specs.Runs.{Leaf, IsTableRun, HasLeaves, AreRuns, run_rows, rows_of};
 ghost use Rattle.leaf_runs.specs.Loose.{IsLooseRun, LeavesOthers};
-ghost use Rattle.leaf_runs.specs.Changed.{leaves_added, IsFound, HasFound, IsWholeRun, HasWholeRun, HasSomeRun, IsNewRun, IsTakenRun, IsSettledRun, HasSettledRun};
+ghost use Rattle.leaf_runs.specs.Changed.{leaves_added, IsFound, HasFound, IsWholeRun, HasWholeRun};
+ghost use Rattle.leaf_runs.specs.Changed.{HasSomeRun, IsNewRun, IsTakenRun, IsSettledRun};
+ghost use Rattle.leaf_runs.specs.Changed.{HasSettledRun};
 
 use crate::catalogue::{read_entry, write_entry};
 use crate::placing::{first_row, place_in_run, take_in_run};
@@ -33,10 +36,17 @@ fn find_row<P: Pages>(
     entry: CatalogueEntry,
     key: &[u8],
 ) -> Result<Found, PageFault>
-    ensures found { P.is_known pages.old → IfOk result (λ found. (leaves : List Leaf) → IsTableRun (P.pages pages.old) table.0 entry leaves → 0 < length leaves → IsFound leaves key.now found.spot.before found.spot.page found.cost) }
-    ensures same { P.is_known pages.old → OnOk result (P.is_known pages.new × (P.pages pages.new ≡ P.pages pages.old)) }
+    ensures found { P.is_known pages.old
+        → IfOk result
+        (λ found. (leaves : List Leaf) → IsTableRun (P.pages pages.old) table.0 entry leaves
+        → 0 < length leaves
+        → IsFound leaves key.now found.spot.before found.spot.page found.cost) }
+    ensures same { P.is_known pages.old
+        → OnOk result (P.is_known pages.new × (P.pages pages.new ≡ P.pages pages.old)) }
     ensures spare { P.spare pages.old ≤ P.spare pages.new }
-    ensures cause { HasPageCause (P.is_known pages.old × HasLeaves (P.pages pages.old) table.0 entry) (P.faults pages.old) (P.faults pages.new) result }
+    ensures cause { HasPageCause
+        (P.is_known pages.old × HasLeaves (P.pages pages.old) table.0 entry) (P.faults pages.old)
+        (P.faults pages.new) result }
     ensures follows { P.follows pages.old pages.new }
 {
     let spot = locate(pages, table, entry, key)?;
@@ -54,7 +64,7 @@ fn cost_of(key: &[u8], value: &[u8]) -> u64
     8 + key.len() as u64 + value.len() as u64
 }
 
-// What the catalogue says of a table once another leaf was made or not, so many leaves were joined
+// What the catalogue says of a table once another leaf was made or not, some leaves were joined
 // to the one before, and rows of these costs were taken out and put in.
 fn recount(
     entry: CatalogueEntry,
@@ -64,7 +74,8 @@ fn recount(
     put: u64,
 ) -> CatalogueEntry
     ensures root { result.root ≡ entry.root }
-    ensures pages { entry.pages ≤ 65536 → result.pages ≡ (entry.pages + leaves_added other) - joined }
+    ensures pages { entry.pages ≤ 65536
+        → result.pages ≡ (entry.pages + leaves_added other) - joined }
     ensures cost { entry.cost + put < 2 ^ 64 → result.cost ≡ (entry.cost - taken) + put }
 {
     let made = u32::from(other.is_some());
@@ -86,10 +97,16 @@ fn put_first<P: Pages>(
     requires key { IsTrue (is_key key.now) }
     requires value { IsTrue (is_value value.now) }
     requires room { 3 ≤ P.spare pages.old }
-    ensures made { P.is_known pages.old → IsTrue (is_live (P.pages pages.old) 0) → IsLooseRun (P.pages pages.old) table.0 [] → IfOk result (IsNewRun (P.pages pages.old) (P.pages pages.new) table.0 ((key.now, value.now) ∷ [])) }
+    // The result.
+    ensures made { P.is_known pages.old → IsTrue (is_live (P.pages pages.old) 0)
+        → IsLooseRun (P.pages pages.old) table.0 []
+        → IfOk result
+        (IsNewRun (P.pages pages.old) (P.pages pages.new) table.0 ((key.now, value.now) ∷ [])) }
     ensures known { P.is_known pages.old → OnOk result (P.is_known pages.new) }
+    // Room and faults.
     ensures spare { P.spare pages.old ≤ P.spare pages.new + 3 }
-    ensures cause { HasPageCause (P.is_known pages.old × IsLooseRun (P.pages pages.old) table.0 []) (P.faults pages.old) (P.faults pages.new) result }
+    ensures cause { HasPageCause (P.is_known pages.old × IsLooseRun (P.pages pages.old) table.0 [])
+        (P.faults pages.old) (P.faults pages.new) result }
     ensures follows { P.follows pages.old pages.new }
 {
     let root = first_row(pages, table, key, value)?;
@@ -112,11 +129,20 @@ fn put_in_leaves<P: Pages>(
     requires key { IsTrue (is_key key.now) }
     requires value { IsTrue (is_value value.now) }
     requires room { 13 ≤ P.spare pages.old }
-    ensures made { P.is_known pages.old → IsTrue (is_live (P.pages pages.old) 0) → (leaves : List Leaf) → IsWholeRun (P.pages pages.old) table.0 entry leaves → 0 < length leaves
-        → IfOk result (IsNewRun (P.pages pages.old) (P.pages pages.new) table.0 (with_row by_bytes key.now value.now (run_rows leaves))) }
+    // The result.
+    ensures made { P.is_known pages.old → IsTrue (is_live (P.pages pages.old) 0)
+        → (leaves : List Leaf) → IsWholeRun (P.pages pages.old) table.0 entry leaves
+        → 0 < length leaves
+        → IfOk result
+        (IsNewRun (P.pages pages.old) (P.pages pages.new) table.0
+        (with_row by_bytes key.now value.now (run_rows leaves))) }
     ensures known { P.is_known pages.old → OnOk result (P.is_known pages.new) }
+    // Room and faults.
     ensures spare { P.spare pages.old ≤ P.spare pages.new + 13 }
-    ensures cause { HasPageCause (P.is_known pages.old × IsTrue (is_live (P.pages pages.old) 0) × HasSomeRun (P.pages pages.old) table.0 entry) (P.faults pages.old) (P.faults pages.new) result }
+    ensures cause { HasPageCause
+        (P.is_known pages.old × IsTrue (is_live (P.pages pages.old) 0)
+        × HasSomeRun (P.pages pages.old) table.0 entry)
+        (P.faults pages.old) (P.faults pages.new) result }
     ensures follows { P.follows pages.old pages.new }
 {
     let found = find_row(pages, table, entry, key)?;
@@ -138,11 +164,19 @@ fn put_in_table<P: Pages>(
     requires key { IsTrue (is_key key.now) }
     requires value { IsTrue (is_value value.now) }
     requires room { 13 ≤ P.spare pages.old }
-    ensures made { P.is_known pages.old → IsTrue (is_live (P.pages pages.old) 0) → (leaves : List Leaf) → IsWholeRun (P.pages pages.old) table.0 entry leaves
-        → IfOk result (IsNewRun (P.pages pages.old) (P.pages pages.new) table.0 (with_row by_bytes key.now value.now (run_rows leaves))) }
+    // The result.
+    ensures made { P.is_known pages.old → IsTrue (is_live (P.pages pages.old) 0)
+        → (leaves : List Leaf) → IsWholeRun (P.pages pages.old) table.0 entry leaves
+        → IfOk result
+        (IsNewRun (P.pages pages.old) (P.pages pages.new) table.0
+        (with_row by_bytes key.now value.now (run_rows leaves))) }
     ensures known { P.is_known pages.old → OnOk result (P.is_known pages.new) }
+    // Room and faults.
     ensures spare { P.spare pages.old ≤ P.spare pages.new + 13 }
-    ensures cause { HasPageCause (P.is_known pages.old × IsTrue (is_live (P.pages pages.old) 0) × HasWholeRun (P.pages pages.old) table.0 entry) (P.faults pages.old) (P.faults pages.new) result }
+    ensures cause { HasPageCause
+        (P.is_known pages.old × IsTrue (is_live (P.pages pages.old) 0)
+        × HasWholeRun (P.pages pages.old) table.0 entry)
+        (P.faults pages.old) (P.faults pages.new) result }
     ensures follows { P.follows pages.old pages.new }
 {
     if entry.root == 0 {
@@ -157,10 +191,18 @@ pub fn put<P: Pages>(pages: &mut P, table: Table, key: &[u8], value: &[u8]) -> R
     requires key { IsTrue (is_key key.now) }
     requires value { IsTrue (is_value value.now) }
     requires room { 40 ≤ P.spare pages.old }
-    ensures set { P.is_known pages.old → AreRuns (P.pages pages.old) → OnOk result (P.is_known pages.new × AreRuns (P.pages pages.new) × (rows_of (P.pages pages.new) ≡ insert (rows_of (P.pages pages.old)) (table.0, key.now) value.now)) }
-    ensures others { P.is_known pages.old → AreRuns (P.pages pages.old) → OnOk result (LeavesOthers (P.pages pages.old) (P.pages pages.new) table.0) }
+    // The result.
+    ensures set { P.is_known pages.old → AreRuns (P.pages pages.old)
+        → OnOk result
+        (P.is_known pages.new × AreRuns (P.pages pages.new)
+        × (rows_of (P.pages pages.new)
+        ≡ insert (rows_of (P.pages pages.old)) (table.0, key.now) value.now)) }
+    ensures others { P.is_known pages.old → AreRuns (P.pages pages.old)
+        → OnOk result (LeavesOthers (P.pages pages.old) (P.pages pages.new) table.0) }
+    // Room and faults.
     ensures spare { P.spare pages.old ≤ P.spare pages.new + 40 }
-    ensures cause { HasPageCause (P.is_known pages.old × AreRuns (P.pages pages.old)) (P.faults pages.old) (P.faults pages.new) result }
+    ensures cause { HasPageCause (P.is_known pages.old × AreRuns (P.pages pages.old))
+        (P.faults pages.old) (P.faults pages.new) result }
     ensures follows { P.follows pages.old pages.new }
 {
     let entry = read_entry(pages, table)?;
@@ -178,11 +220,19 @@ fn take_from_leaves<P: Pages>(
     found: Found,
 ) -> Result<CatalogueEntry, PageFault>
     requires room { 7 ≤ P.spare pages.old }
-    ensures taken { P.is_known pages.old → (leaves : List Leaf) → IsWholeRun (P.pages pages.old) table.0 entry leaves → IsFound leaves key.now found.spot.before found.spot.page found.cost
-        → IfOk result (IsTakenRun (P.pages pages.old) (P.pages pages.new) table.0 (without key.now (run_rows leaves))) }
+    ensures taken { P.is_known pages.old → (leaves : List Leaf)
+        → IsWholeRun (P.pages pages.old) table.0 entry leaves
+        → IsFound leaves key.now found.spot.before found.spot.page found.cost
+        → IfOk result
+        (IsTakenRun (P.pages pages.old) (P.pages pages.new) table.0
+        (without key.now (run_rows leaves))) }
     ensures known { P.is_known pages.old → OnOk result (P.is_known pages.new) }
     ensures spare { P.spare pages.old ≤ P.spare pages.new + 7 }
-    ensures cause { HasPageCause (P.is_known pages.old × HasFound (P.pages pages.old) table.0 entry key.now found.spot.before found.spot.page found.cost) (P.faults pages.old) (P.faults pages.new) result }
+    ensures cause { HasPageCause
+        (P.is_known pages.old
+        × HasFound (P.pages pages.old) table.0 entry key.now found.spot.before found.spot.page
+        found.cost)
+        (P.faults pages.old) (P.faults pages.new) result }
     ensures follows { P.follows pages.old pages.new }
 {
     let spot = found.spot;
@@ -196,10 +246,13 @@ fn drop_if_empty<P: Pages>(
     pages: &mut P,
     entry: CatalogueEntry,
 ) -> Result<CatalogueEntry, PageFault>
-    ensures left { P.is_known pages.old → (table : ℕ) (leaves : List Leaf) → IsSettledRun (P.pages pages.old) table entry leaves → IfOk result (IsNewRun (P.pages pages.old) (P.pages pages.new) table (run_rows leaves)) }
+    ensures left { P.is_known pages.old → (table : ℕ) (leaves : List Leaf)
+        → IsSettledRun (P.pages pages.old) table entry leaves
+        → IfOk result (IsNewRun (P.pages pages.old) (P.pages pages.new) table (run_rows leaves)) }
     ensures known { P.is_known pages.old → OnOk result (P.is_known pages.new) }
     ensures spare { P.spare pages.old ≤ P.spare pages.new }
-    ensures cause { HasPageCause (P.is_known pages.old × HasSettledRun (P.pages pages.old) entry) (P.faults pages.old) (P.faults pages.new) result }
+    ensures cause { HasPageCause (P.is_known pages.old × HasSettledRun (P.pages pages.old) entry)
+        (P.faults pages.old) (P.faults pages.new) result }
     ensures follows { P.follows pages.old pages.new }
 {
     if entry.pages > 1 || entry.cost > 0 {
@@ -222,11 +275,19 @@ fn take_from_table<P: Pages>(
     found: Found,
 ) -> Result<CatalogueEntry, PageFault>
     requires room { 7 ≤ P.spare pages.old }
-    ensures made { P.is_known pages.old → (leaves : List Leaf) → IsWholeRun (P.pages pages.old) table.0 entry leaves → IsFound leaves key.now found.spot.before found.spot.page found.cost
-        → IfOk result (IsNewRun (P.pages pages.old) (P.pages pages.new) table.0 (without key.now (run_rows leaves))) }
+    ensures made { P.is_known pages.old → (leaves : List Leaf)
+        → IsWholeRun (P.pages pages.old) table.0 entry leaves
+        → IsFound leaves key.now found.spot.before found.spot.page found.cost
+        → IfOk result
+        (IsNewRun (P.pages pages.old) (P.pages pages.new) table.0
+        (without key.now (run_rows leaves))) }
     ensures known { P.is_known pages.old → OnOk result (P.is_known pages.new) }
     ensures spare { P.spare pages.old ≤ P.spare pages.new + 7 }
-    ensures cause { HasPageCause (P.is_known pages.old × HasFound (P.pages pages.old) table.0 entry key.now found.spot.before found.spot.page found.cost) (P.faults pages.old) (P.faults pages.new) result }
+    ensures cause { HasPageCause
+        (P.is_known pages.old
+        × HasFound (P.pages pages.old) table.0 entry key.now found.spot.before found.spot.page
+        found.cost)
+        (P.faults pages.old) (P.faults pages.new) result }
     ensures follows { P.follows pages.old pages.new }
 {
     let left = take_from_leaves(pages, table, entry, key, found)?;
@@ -239,11 +300,21 @@ pub fn del<P: Pages>(pages: &mut P, table: Table, key: &[u8]) -> Result<bool, Pa
     requires table { IsTrue (is_table table.0) }
     requires key { IsTrue (is_key key.now) }
     requires room { 40 ≤ P.spare pages.old }
-    ensures found { P.is_known pages.old → AreRuns (P.pages pages.old) → IfOk result (λ found. found ≡ is_some (get (rows_of (P.pages pages.old)) (table.0, key.now))) }
-    ensures gone { P.is_known pages.old → AreRuns (P.pages pages.old) → OnOk result (P.is_known pages.new × AreRuns (P.pages pages.new) × (rows_of (P.pages pages.new) ≡ remove (rows_of (P.pages pages.old)) (table.0, key.now))) }
-    ensures others { P.is_known pages.old → AreRuns (P.pages pages.old) → OnOk result (LeavesOthers (P.pages pages.old) (P.pages pages.new) table.0) }
+    // The result.
+    ensures found { P.is_known pages.old → AreRuns (P.pages pages.old)
+        → IfOk result
+        (λ found. found ≡ is_some (get (rows_of (P.pages pages.old)) (table.0, key.now))) }
+    ensures gone { P.is_known pages.old → AreRuns (P.pages pages.old)
+        → OnOk result
+        (P.is_known pages.new × AreRuns (P.pages pages.new)
+        × (rows_of (P.pages pages.new)
+        ≡ remove (rows_of (P.pages pages.old)) (table.0, key.now))) }
+    ensures others { P.is_known pages.old → AreRuns (P.pages pages.old)
+        → OnOk result (LeavesOthers (P.pages pages.old) (P.pages pages.new) table.0) }
+    // Room and faults.
     ensures spare { P.spare pages.old ≤ P.spare pages.new + 40 }
-    ensures cause { HasPageCause (P.is_known pages.old × AreRuns (P.pages pages.old)) (P.faults pages.old) (P.faults pages.new) result }
+    ensures cause { HasPageCause (P.is_known pages.old × AreRuns (P.pages pages.old))
+        (P.faults pages.old) (P.faults pages.new) result }
     ensures follows { P.follows pages.old pages.new }
 {
     let entry = read_entry(pages, table)?;

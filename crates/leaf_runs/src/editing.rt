@@ -1,20 +1,25 @@
 //! A row leaf as a sorted list of rows, edited in place.
-ghost use Rattle.std.specs.Prelude.{◌≡◌, ◌+◌, ◌<◌, ◌≤◌, ℕ, List, length, Bool, true, false, IsTrue, Some, None};
+ghost use Rattle.std.specs.Prelude.{◌≡◌, ◌+◌, ◌<◌, ◌≤◌, ℕ};
+ghost use Rattle.std.specs.Prelude.{List, length, Bool, true, false, IsTrue, Some, None};
 ghost use Rattle.std.specs.FinMap.{find as row_of};
 ghost use Rattle.std.specs.List.{insert as with_entry};
 ghost use Rattle.mdb_model.specs.Script.{is_key, is_value};
+ghost use Rattle.mdb_model.specs.declared.limits.TheConstants.{PAGE_ROOM};
 ghost use Rattle.mdb_bytes.specs.TablePages.{RowLeaf};
 ghost use Rattle.mdb_bytes.specs.PageReadings.{row_leaf_of};
-ghost use Rattle.row_page.specs.Entries.{Entry, IsPage, Becomes, IsPlaceFor, entries_of, head_of, is_leaf, cost_of};
+ghost use Rattle.row_page.specs.Entries.{Entry, IsPage, Becomes, IsPlaceFor, entries_of, head_of};
+ghost use Rattle.row_page.specs.Entries.{is_leaf, cost_of};
 ghost use Rattle.leaf_runs.specs.Leaves.{by_bytes};
 ghost use Rattle.leaf_runs.specs.Edits.{IsTaken, IsInserted, IsPut};
 
+use mdb_model::limits::{PAGE_BYTES, PAGE_ROOM};
 use row_page::{find, insert, remove, used_of};
 
 /// Takes the row with a key out; false where a leaf has no such row.
-pub(crate) fn del_row(page: &mut [u8; 8192], key: &[u8]) -> bool
+pub(crate) fn del_row(page: &mut [u8; PAGE_BYTES], key: &[u8]) -> bool
     requires { (leaf : RowLeaf) × (row_leaf_of page.old ≡ Some leaf) }
-    ensures { (leaf : RowLeaf) → row_leaf_of page.old ≡ Some leaf → IsTaken result leaf key.now page.new }
+    ensures { (leaf : RowLeaf) → row_leaf_of page.old ≡ Some leaf
+        → IsTaken result leaf key.now page.new }
 {
     match find(page, key) {
         Ok(at) => {
@@ -26,16 +31,20 @@ pub(crate) fn del_row(page: &mut [u8; 8192], key: &[u8]) -> bool
 }
 
 // Puts a new row in at its place, where there is room.
-fn insert_at(page: &mut [u8; 8192], at: usize, key: &[u8], value: &[u8]) -> bool
+fn insert_at(page: &mut [u8; PAGE_BYTES], at: usize, key: &[u8], value: &[u8]) -> bool
     requires page { IsPage page.old }
     requires leaf { is_leaf (head_of page.old) ≡ true }
     requires place { IsPlaceFor (entries_of page.old) key.now at }
     requires key { IsTrue (is_key key.now) }
     requires value { IsTrue (is_value value.now) }
-    ensures done { result ≡ true → Becomes page.old page.new (with_entry (entries_of page.old) at (record { key = key.now; rest = value.now })) }
-    ensures full { result ≡ false → (page.new ≡ page.old) × (8128 < cost_of page.old + (8 + length key.now + length value.now)) }
+    ensures done { result ≡ true
+        → Becomes page.old page.new
+        (with_entry (entries_of page.old) at (record { key = key.now; rest = value.now })) }
+    ensures full { result ≡ false
+        → (page.new ≡ page.old)
+        × (PAGE_ROOM < cost_of page.old + (8 + length key.now + length value.now)) }
 {
-    if used_of(page) + 8 + key.len() + value.len() > 8128 {
+    if used_of(page) + 8 + key.len() + value.len() > PAGE_ROOM {
         return false;
     }
     insert(page, at, key, value);
@@ -43,11 +52,13 @@ fn insert_at(page: &mut [u8; 8192], at: usize, key: &[u8], value: &[u8]) -> bool
 }
 
 // Puts a new row in, where there is room.
-fn insert_row(page: &mut [u8; 8192], key: &[u8], value: &[u8]) -> bool
-    requires leaf { (leaf : RowLeaf) × (row_leaf_of page.old ≡ Some leaf) × (row_of by_bytes key.now leaf.rows ≡ None) }
+fn insert_row(page: &mut [u8; PAGE_BYTES], key: &[u8], value: &[u8]) -> bool
+    requires leaf { (leaf : RowLeaf) × (row_leaf_of page.old ≡ Some leaf)
+        × (row_of by_bytes key.now leaf.rows ≡ None) }
     requires key { IsTrue (is_key key.now) }
     requires value { IsTrue (is_value value.now) }
-    ensures { (leaf : RowLeaf) → row_leaf_of page.old ≡ Some leaf → IsInserted result leaf key.now value.now page.old page.new }
+    ensures { (leaf : RowLeaf) → row_leaf_of page.old ≡ Some leaf
+        → IsInserted result leaf key.now value.now page.old page.new }
 {
     match find(page, key) {
         Ok(_) => false,
@@ -57,11 +68,12 @@ fn insert_row(page: &mut [u8; 8192], key: &[u8], value: &[u8]) -> bool
 
 /// Sets the value of a row in a leaf; false where there is no room for it, and then the leaf has no
 /// row with the key.
-pub(crate) fn put_row(page: &mut [u8; 8192], key: &[u8], value: &[u8]) -> bool
+pub(crate) fn put_row(page: &mut [u8; PAGE_BYTES], key: &[u8], value: &[u8]) -> bool
     requires leaf { (leaf : RowLeaf) × (row_leaf_of page.old ≡ Some leaf) }
     requires key { IsTrue (is_key key.now) }
     requires value { IsTrue (is_value value.now) }
-    ensures { (leaf : RowLeaf) → row_leaf_of page.old ≡ Some leaf → IsPut result leaf key.now value.now page.new }
+    ensures { (leaf : RowLeaf) → row_leaf_of page.old ≡ Some leaf
+        → IsPut result leaf key.now value.now page.new }
 {
     del_row(page, key);
     insert_row(page, key, value)

@@ -1,5 +1,7 @@
 //! A row leaf as a sorted list of rows, read and edited in place.
-ghost use Rattle.std.specs.Prelude.{◌≡◌, ◌+◌, ◌<◌, ◌≤◌, ℕ, List, length, ◌↔◌, IsTrue, Some, true, Result, MatchResult, slice_get};
+ghost use Rattle.std.specs.Prelude.{◌≡◌, ◌+◌, ◌<◌, ◌≤◌, ℕ, ◌↔◌};
+ghost use Rattle.std.specs.Prelude.{List, length, IsTrue, Some, true, Result, MatchResult};
+ghost use Rattle.std.specs.Prelude.{slice_get};
 ghost use Rattle.std.specs.FinMap.{find};
 ghost use Rattle.mdb_bytes.specs.TablePages.{RowLeaf};
 ghost use Rattle.mdb_bytes.specs.PageReadings.{row_leaf_of};
@@ -12,6 +14,7 @@ ghost use Rattle.leaf_runs.specs.Loose.{row_cost_of};
 
 use mdb_bytes::{PageHead, check_row_leaf, page_head};
 use mdb_model::bytes::{KeyBuf, ValueBuf};
+use mdb_model::limits::PAGE_BYTES;
 use mdb_model::name::Table;
 use row_page::{count_of, find, key_of, next_of, value_of};
 
@@ -31,7 +34,7 @@ fn names(head: PageHead, table: Table, number: u32) -> bool
 }
 
 /// Whether a page is a leaf of the table that has rows, and names itself by this number.
-pub(crate) fn is_run_leaf(page: &[u8; 8192], table: Table, number: u32) -> bool
+pub(crate) fn is_run_leaf(page: &[u8; PAGE_BYTES], table: Table, number: u32) -> bool
     ensures { IsTrue result ↔ IsRunLeaf table.0 number page.now }
 {
     if !check_row_leaf(page) {
@@ -41,17 +44,20 @@ pub(crate) fn is_run_leaf(page: &[u8; 8192], table: Table, number: u32) -> bool
 }
 
 /// Where the row with a key stands in a leaf, or would stand.
-pub(crate) fn search(page: &[u8; 8192], key: &[u8]) -> Result<usize, usize>
+pub(crate) fn search(page: &[u8; PAGE_BYTES], key: &[u8]) -> Result<usize, usize>
     requires { (leaf : RowLeaf) × (row_leaf_of page.now ≡ Some leaf) }
-    ensures { (leaf : RowLeaf) → row_leaf_of page.now ≡ Some leaf → MatchResult result (IsAt by_bytes key_of leaf.rows key.now) (IsGap by_bytes key_of leaf.rows key.now) }
+    ensures { (leaf : RowLeaf) → row_leaf_of page.now ≡ Some leaf
+        → MatchResult result (IsAt by_bytes key_of leaf.rows key.now)
+        (IsGap by_bytes key_of leaf.rows key.now) }
 {
     find(page, key)
 }
 
 /// The value of the row with a key; false where a leaf has no such row.
-pub(crate) fn copy_value(page: &[u8; 8192], key: &[u8], into: &mut ValueBuf) -> bool
+pub(crate) fn copy_value(page: &[u8; PAGE_BYTES], key: &[u8], into: &mut ValueBuf) -> bool
     requires { (leaf : RowLeaf) × (row_leaf_of page.now ≡ Some leaf) }
-    ensures { (leaf : RowLeaf) → row_leaf_of page.now ≡ Some leaf → IsRow result (find by_bytes key.now leaf.rows) into.new.items }
+    ensures { (leaf : RowLeaf) → row_leaf_of page.now ≡ Some leaf
+        → IsRow result (find by_bytes key.now leaf.rows) into.new.items }
 {
     let Ok(at) = search(page, key) else {
         return false;
@@ -61,9 +67,10 @@ pub(crate) fn copy_value(page: &[u8; 8192], key: &[u8], into: &mut ValueBuf) -> 
 }
 
 /// What the row with a key costs, 0 where a leaf has no such row.
-pub(crate) fn row_cost(page: &[u8; 8192], key: &[u8]) -> u64
+pub(crate) fn row_cost(page: &[u8; PAGE_BYTES], key: &[u8]) -> u64
     requires { (leaf : RowLeaf) × (row_leaf_of page.now ≡ Some leaf) }
-    ensures { (leaf : RowLeaf) → row_leaf_of page.now ≡ Some leaf → result ≡ row_cost_of key.now leaf.rows }
+    ensures { (leaf : RowLeaf) → row_leaf_of page.now ≡ Some leaf
+        → result ≡ row_cost_of key.now leaf.rows }
 {
     let Ok(at) = search(page, key) else {
         return 0;
@@ -72,16 +79,17 @@ pub(crate) fn row_cost(page: &[u8; 8192], key: &[u8]) -> u64
 }
 
 // Whether the last key of a leaf is below a key.
-fn ends_below(page: &[u8; 8192], key: &[u8]) -> bool
+fn ends_below(page: &[u8; PAGE_BYTES], key: &[u8]) -> bool
     requires { (leaf : RowLeaf) × (row_leaf_of page.now ≡ Some leaf) × (0 < length leaf.rows) }
-    ensures { (leaf : RowLeaf) → row_leaf_of page.now ≡ Some leaf → result ≡ all_below key.now leaf.rows }
+    ensures { (leaf : RowLeaf) → row_leaf_of page.now ≡ Some leaf
+        → result ≡ all_below key.now leaf.rows }
 {
     let last = key_of(page, count_of(page) - 1);
     last.cmp(&key).is_lt()
 }
 
 // Whether a key stands in a leaf with rows or would stand there, among the leaves from it on.
-fn stands_here(page: &[u8; 8192], key: &[u8]) -> bool
+fn stands_here(page: &[u8; PAGE_BYTES], key: &[u8]) -> bool
     requires { (leaf : RowLeaf) × (row_leaf_of page.now ≡ Some leaf) × (0 < length leaf.rows) }
     ensures { (leaf : RowLeaf) → row_leaf_of page.now ≡ Some leaf → StandsHere result leaf key.now }
 {
@@ -92,7 +100,7 @@ fn stands_here(page: &[u8; 8192], key: &[u8]) -> bool
 }
 
 /// What a walk for a key learns of a leaf with rows.
-pub(crate) fn see(page: &[u8; 8192], key: &[u8]) -> Sight
+pub(crate) fn see(page: &[u8; PAGE_BYTES], key: &[u8]) -> Sight
     requires { (leaf : RowLeaf) × (row_leaf_of page.now ≡ Some leaf) × (0 < length leaf.rows) }
     ensures { (leaf : RowLeaf) → row_leaf_of page.now ≡ Some leaf → Sees leaf key.now result }
 {
@@ -102,10 +110,11 @@ pub(crate) fn see(page: &[u8; 8192], key: &[u8]) -> Sight
     }
 }
 
-/// Where the rows behind a key begin in a leaf.
-pub(crate) fn first_behind(page: &[u8; 8192], after: &[u8]) -> usize
+/// Where the rows after a key begin in a leaf.
+pub(crate) fn first_behind(page: &[u8; PAGE_BYTES], after: &[u8]) -> usize
     requires { (leaf : RowLeaf) × (row_leaf_of page.now ≡ Some leaf) }
-    ensures { (leaf : RowLeaf) → row_leaf_of page.now ≡ Some leaf → IsCut leaf.rows after.now result }
+    ensures { (leaf : RowLeaf) → row_leaf_of page.now ≡ Some leaf
+        → IsCut leaf.rows after.now result }
 {
     match search(page, after) {
         Ok(at) => at + 1,
@@ -113,10 +122,11 @@ pub(crate) fn first_behind(page: &[u8; 8192], after: &[u8]) -> usize
     }
 }
 
-// Gives the key and the value of a row.
-fn copy_row(page: &[u8; 8192], at: usize, key: &mut KeyBuf, value: &mut ValueBuf)
+// Copies the key and the value of a row.
+fn copy_row(page: &[u8; PAGE_BYTES], at: usize, key: &mut KeyBuf, value: &mut ValueBuf)
     requires { (leaf : RowLeaf) × (row_leaf_of page.now ≡ Some leaf) × (at < length leaf.rows) }
-    ensures { (leaf : RowLeaf) → row_leaf_of page.now ≡ Some leaf → slice_get leaf.rows at ≡ Some (key.new.items, value.new.items) }
+    ensures { (leaf : RowLeaf) → row_leaf_of page.now ≡ Some leaf
+        → slice_get leaf.rows at ≡ Some (key.new.items, value.new.items) }
 {
     // There is room for every key and every value, so both succeed.
     key.clear();
@@ -125,15 +135,16 @@ fn copy_row(page: &[u8; 8192], at: usize, key: &mut KeyBuf, value: &mut ValueBuf
     let _ = value.try_extend_from_slice(value_of(page, at));
 }
 
-/// Gives the first row behind a key; false where a leaf has none.
+/// Copies the first row after a key; false where a leaf has none.
 pub(crate) fn copy_behind(
-    page: &[u8; 8192],
+    page: &[u8; PAGE_BYTES],
     after: &[u8],
     key: &mut KeyBuf,
     value: &mut ValueBuf,
 ) -> bool
     requires { (leaf : RowLeaf) × (row_leaf_of page.now ≡ Some leaf) }
-    ensures { (leaf : RowLeaf) → row_leaf_of page.now ≡ Some leaf → IsBehind result leaf.rows after.now key.new.items value.new.items }
+    ensures { (leaf : RowLeaf) → row_leaf_of page.now ≡ Some leaf
+        → IsBehind result leaf.rows after.now key.new.items value.new.items }
 {
     let at = first_behind(page, after);
     if at >= count_of(page) {

@@ -1,5 +1,6 @@
 //! Two row leaves, split and joined in place.
-ghost use Rattle.std.specs.Prelude.{◌≡◌, ◌+◌, ◌<◌, ◌≤◌, ◌++◌, ◌↔◌, ℕ, List, length, Bool, true, false, IsTrue, Some, ⊤, T};
+ghost use Rattle.std.specs.Prelude.{◌≡◌, ◌+◌, ◌<◌, ◌≤◌, ◌++◌, ◌↔◌, ℕ, ⊤};
+ghost use Rattle.std.specs.Prelude.{List, length, Bool, true, false, IsTrue, Some, T};
 ghost use Rattle.std.specs.FinMap.{is_sorted};
 ghost use Rattle.mdb_bytes.specs.TablePages.{RowLeaf};
 ghost use Rattle.mdb_bytes.specs.PageReadings.{row_leaf_of};
@@ -7,6 +8,7 @@ ghost use Rattle.leaf_runs.specs.Leaves.{by_bytes};
 ghost use Rattle.leaf_runs.specs.Edits.{IsLeafNamed};
 
 use mdb_bytes::{PageHead, PairEdit, check_row_leaf, page_head};
+use mdb_model::limits::{PAGE_BYTES, PAGE_ROOM};
 use mdb_model::name::Table;
 use row_page::{count_of, key_of, merge, next_of, set_next, split, used_of};
 
@@ -19,7 +21,7 @@ pub(crate) struct SplitAt {
     pub(crate) at: usize,
 }
 
-/// Moves the rows of the next leaf behind those of a leaf, where they go on one page.
+/// Moves the rows of the next leaf after those of a leaf, where they go on one page.
 #[derive(Clone, Copy, Debug)]
 pub(crate) struct JoinNext {
     pub(crate) table: Table,
@@ -34,7 +36,7 @@ fn is_named(head: PageHead, table: Table, number: u32) -> bool
 }
 
 /// Whether a page is a leaf of the table, and names itself by this number.
-pub(crate) fn is_leaf_of(page: &[u8; 8192], table: Table, number: u32) -> bool
+pub(crate) fn is_leaf_of(page: &[u8; PAGE_BYTES], table: Table, number: u32) -> bool
     ensures { IsTrue result ↔ ((leaf : RowLeaf) × IsLeafNamed table.0 number page.now leaf) }
 {
     if !check_row_leaf(page) {
@@ -44,10 +46,11 @@ pub(crate) fn is_leaf_of(page: &[u8; 8192], table: Table, number: u32) -> bool
 }
 
 // Whether the keys of two leaves ascend.
-fn keys_ascend(a: &[u8; 8192], b: &[u8; 8192]) -> bool
+fn keys_ascend(a: &[u8; PAGE_BYTES], b: &[u8; PAGE_BYTES]) -> bool
     requires a { (leaf : RowLeaf) × (row_leaf_of a.now ≡ Some leaf) }
     requires b { (leaf : RowLeaf) × (row_leaf_of b.now ≡ Some leaf) }
-    ensures { (leaf next : RowLeaf) → row_leaf_of a.now ≡ Some leaf → row_leaf_of b.now ≡ Some next → result ≡ is_sorted by_bytes (leaf.rows ++ next.rows) }
+    ensures { (leaf next : RowLeaf) → row_leaf_of a.now ≡ Some leaf → row_leaf_of b.now ≡ Some next
+        → result ≡ is_sorted by_bytes (leaf.rows ++ next.rows) }
 {
     if count_of(a) == 0 {
         return true;
@@ -67,7 +70,7 @@ impl PairEdit for SplitAt {
 
     ghost does = { λ s answer x y x2 y2. Splits s.table.0 s.from s.to s.at answer x y x2 y2 };
 
-    fn edit(&self, a: &mut [u8; 8192], b: &mut [u8; 8192]) -> bool {
+    fn edit(&self, a: &mut [u8; PAGE_BYTES], b: &mut [u8; PAGE_BYTES]) -> bool {
         if !is_leaf_of(a, self.table, self.from) {
             return false;
         }
@@ -95,14 +98,14 @@ impl PairEdit for JoinNext {
 
     ghost does = { λ s answer x y x2 y2. Joins s.table.0 s.first s.second answer x y x2 };
 
-    fn edit(&self, a: &mut [u8; 8192], b: &mut [u8; 8192]) -> bool {
+    fn edit(&self, a: &mut [u8; PAGE_BYTES], b: &mut [u8; PAGE_BYTES]) -> bool {
         if !is_leaf_of(a, self.table, self.first) {
             return false;
         }
         if !is_leaf_of(b, self.table, self.second) {
             return false;
         }
-        if used_of(a) + used_of(b) > 8128 {
+        if used_of(a) + used_of(b) > PAGE_ROOM {
             return false;
         }
         if !keys_ascend(a, b) {

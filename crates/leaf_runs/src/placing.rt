@@ -31,10 +31,17 @@ pub(crate) fn first_row<P: Pages>(
     requires key { IsTrue (is_key key.now) }
     requires value { IsTrue (is_value value.now) }
     requires room { 3 ≤ P.spare pages.old }
-    ensures made { P.is_known pages.old → IsTrue (is_live (P.pages pages.old) 0) → IsLooseRun (P.pages pages.old) table.0 [] → IfOk result (λ page. Rewrites (P.pages pages.old) (P.pages pages.new) table.0 (record { page = page; rows = (key.now, value.now) ∷ [] } ∷ [])) }
+    // The result.
+    ensures made { P.is_known pages.old → IsTrue (is_live (P.pages pages.old) 0)
+        → IsLooseRun (P.pages pages.old) table.0 []
+        → IfOk result
+        (λ page. Rewrites (P.pages pages.old) (P.pages pages.new) table.0
+        (record { page = page; rows = (key.now, value.now) ∷ [] } ∷ [])) }
     ensures known { P.is_known pages.old → OnOk result (P.is_known pages.new) }
+    // Room and faults.
     ensures spare { P.spare pages.old ≤ P.spare pages.new + 3 }
-    ensures cause { HasPageCause (P.is_known pages.old × IsLooseRun (P.pages pages.old) table.0 []) (P.faults pages.old) (P.faults pages.new) result }
+    ensures cause { HasPageCause (P.is_known pages.old × IsLooseRun (P.pages pages.old) table.0 [])
+        (P.faults pages.old) (P.faults pages.new) result }
     ensures follows { P.follows pages.old pages.new }
 {
     let page = new_leaf(pages, table)?;
@@ -44,17 +51,20 @@ pub(crate) fn first_row<P: Pages>(
     Ok(page)
 }
 
-// Where the rows behind a key begin in a leaf.
+// Where the rows after a key begin in a leaf.
 fn place_on_leaf<P: Pages>(
     pages: &mut P,
     table: Table,
     page: u32,
     key: &[u8],
 ) -> Result<usize, PageFault>
-    ensures place { P.is_known pages.old → IfOk result (IsPlaceOn (P.pages pages.old) page key.now) }
-    ensures same { P.is_known pages.old → OnOk result (P.is_known pages.new × (P.pages pages.new ≡ P.pages pages.old)) }
+    ensures place { P.is_known pages.old
+        → IfOk result (IsPlaceOn (P.pages pages.old) page key.now) }
+    ensures same { P.is_known pages.old
+        → OnOk result (P.is_known pages.new × (P.pages pages.new ≡ P.pages pages.old)) }
     ensures spare { P.spare pages.old ≤ P.spare pages.new }
-    ensures cause { HasPageCause (P.is_known pages.old × HasLeaf (P.pages pages.old) table.0 page) (P.faults pages.old) (P.faults pages.new) result }
+    ensures cause { HasPageCause (P.is_known pages.old × HasLeaf (P.pages pages.old) table.0 page)
+        (P.faults pages.old) (P.faults pages.new) result }
     ensures follows { P.follows pages.old pages.new }
 {
     if !pages.lives(page) {
@@ -67,14 +77,17 @@ fn place_on_leaf<P: Pages>(
     Ok(first_behind(bytes, key))
 }
 
-// Moves the rows of a leaf behind a key to a new leaf, the next one, whose page is answered.
+// Moves the rows of a leaf after a key to a new leaf, the next one, whose page is answered.
 fn split_for<P: Pages>(pages: &mut P, table: Table, page: u32, key: &[u8]) -> Result<u32, PageFault>
     requires table { IsTrue (is_table table.0) }
     requires room { 4 ≤ P.spare pages.old }
-    ensures cut { P.is_known pages.old → (leaf : RowLeaf) → IsNamedAt (P.pages pages.old) table.0 page leaf → IfOk result (IsCutOff (P.pages pages.old) (P.pages pages.new) table.0 page leaf key.now) }
+    ensures cut { P.is_known pages.old → (leaf : RowLeaf)
+        → IsNamedAt (P.pages pages.old) table.0 page leaf
+        → IfOk result (IsCutOff (P.pages pages.old) (P.pages pages.new) table.0 page leaf key.now) }
     ensures known { P.is_known pages.old → OnOk result (P.is_known pages.new) }
     ensures spare { P.spare pages.old ≤ P.spare pages.new + 4 }
-    ensures cause { HasPageCause (P.is_known pages.old × HasLeaf (P.pages pages.old) table.0 page) (P.faults pages.old) (P.faults pages.new) result }
+    ensures cause { HasPageCause (P.is_known pages.old × HasLeaf (P.pages pages.old) table.0 page)
+        (P.faults pages.old) (P.faults pages.new) result }
     ensures follows { P.follows pages.old pages.new }
 {
     let other = new_leaf(pages, table)?;
@@ -105,10 +118,20 @@ fn put_on_either<P: Pages>(
     requires key { IsTrue (is_key key.now) }
     requires value { IsTrue (is_value value.now) }
     requires room { 2 ≤ P.spare pages.old }
-    ensures put { P.is_known pages.old → (a b : RowLeaf) → AreHalves (P.pages pages.old) table.0 first second key.now a b → OnOk result (IsPutOnOne (P.pages pages.old) (P.pages pages.new) first second a b key.now value.now) }
+    // The result.
+    ensures put { P.is_known pages.old → (a b : RowLeaf)
+        → AreHalves (P.pages pages.old) table.0 first second key.now a b
+        → OnOk result
+        (IsPutOnOne (P.pages pages.old) (P.pages pages.new) first second a b key.now
+        value.now) }
     ensures known { P.is_known pages.old → OnOk result (P.is_known pages.new) }
+    // Room and faults.
     ensures spare { P.spare pages.old ≤ P.spare pages.new + 2 }
-    ensures cause { HasPageCause (P.is_known pages.old × ((a : RowLeaf) × (b : RowLeaf) × AreHalves (P.pages pages.old) table.0 first second key.now a b)) (P.faults pages.old) (P.faults pages.new) result }
+    ensures cause { HasPageCause
+        (P.is_known pages.old
+        × ((a : RowLeaf) × (b : RowLeaf)
+        × AreHalves (P.pages pages.old) table.0 first second key.now a b))
+        (P.faults pages.old) (P.faults pages.new) result }
     ensures follows { P.follows pages.old pages.new }
 {
     if put_on_leaf(pages, table, first, key, value)? {
@@ -122,8 +145,8 @@ fn put_on_either<P: Pages>(
 
 /// Puts a row into the leaf where its key stands or would stand. Where it has no room there the
 /// leaf is split at the key; then the page of the new leaf is answered. Page 0, where no leaf can
-/// stand, must live: else the new leaf may get it. Where the call fails, the leaf may have been left
-/// without a row of the key, split in two, or beside a new leaf that no other one names.
+/// stand, must live: else the new leaf may get it. Where the call fails, the leaf may have been
+/// left without a row of the key, split in two, or beside a new leaf that no other one names.
 pub(crate) fn place_in_run<P: Pages>(
     pages: &mut P,
     table: Table,
@@ -135,11 +158,20 @@ pub(crate) fn place_in_run<P: Pages>(
     requires key { IsTrue (is_key key.now) }
     requires value { IsTrue (is_value value.now) }
     requires room { 7 ≤ P.spare pages.old }
-    ensures placed { P.is_known pages.old → IsTrue (is_live (P.pages pages.old) 0) → (front : List Leaf) (here : Leaf) (back : List Leaf) → IsLooseRun (P.pages pages.old) table.0 (front ++ here ∷ back) → here.page ≡ page → IsRound front key.now back
-        → IfOk result (IsPlaced (P.pages pages.old) (P.pages pages.new) table.0 front here back key.now value.now) }
+    // The result.
+    ensures placed { P.is_known pages.old → IsTrue (is_live (P.pages pages.old) 0)
+        → (front : List Leaf) (here : Leaf) (back : List Leaf)
+        → IsLooseRun (P.pages pages.old) table.0 (front ++ here ∷ back) → here.page ≡ page
+        → IsRound front key.now back
+        → IfOk result
+        (IsPlaced (P.pages pages.old) (P.pages pages.new) table.0 front here back key.now
+        value.now) }
     ensures known { P.is_known pages.old → OnOk result (P.is_known pages.new) }
+    // Room and faults.
     ensures spare { P.spare pages.old ≤ P.spare pages.new + 7 }
-    ensures cause { HasPageCause (P.is_known pages.old × HasSpot (P.pages pages.old) table.0 page key.now) (P.faults pages.old) (P.faults pages.new) result }
+    ensures cause { HasPageCause
+        (P.is_known pages.old × HasSpot (P.pages pages.old) table.0 page key.now)
+        (P.faults pages.old) (P.faults pages.new) result }
     ensures follows { P.follows pages.old pages.new }
 {
     if put_on_leaf(pages, table, page, key, value)? {
@@ -159,11 +191,15 @@ pub(crate) fn take_in_run<P: Pages>(
     key: &[u8],
 ) -> Result<(), PageFault>
     requires room { 1 ≤ P.spare pages.old }
-    ensures taken { P.is_known pages.old → (front : List Leaf) (here : Leaf) (back : List Leaf) → IsLooseRun (P.pages pages.old) table.0 (front ++ here ∷ back) → here.page ≡ page
-        → OnOk result (Rewrites (P.pages pages.old) (P.pages pages.new) table.0 (front ++ record { page = here.page; rows = without key.now here.rows } ∷ back)) }
+    ensures taken { P.is_known pages.old → (front : List Leaf) (here : Leaf) (back : List Leaf)
+        → IsLooseRun (P.pages pages.old) table.0 (front ++ here ∷ back) → here.page ≡ page
+        → OnOk result
+        (Rewrites (P.pages pages.old) (P.pages pages.new) table.0
+        (front ++ record { page = here.page; rows = without key.now here.rows } ∷ back)) }
     ensures known { P.is_known pages.old → OnOk result (P.is_known pages.new) }
     ensures spare { P.spare pages.old ≤ P.spare pages.new + 1 }
-    ensures cause { HasPageCause (P.is_known pages.old × HasHere (P.pages pages.old) table.0 page) (P.faults pages.old) (P.faults pages.new) result }
+    ensures cause { HasPageCause (P.is_known pages.old × HasHere (P.pages pages.old) table.0 page)
+        (P.faults pages.old) (P.faults pages.new) result }
     ensures follows { P.follows pages.old pages.new }
 {
     take_off_leaf(pages, table, page, key)?;

@@ -6,7 +6,9 @@ ghost use Rattle.mdb_model.specs.Space.{table_pages, table_cost};
 ghost use Rattle.mdb_bytes.specs.Held.{HasPageCause, IsRow, next_row, IsNextRow};
 ghost use Rattle.mdb_bytes.specs.TablePages.{RowLeaf};
 ghost use Rattle.leaf_runs.specs.Leaves.{by_bytes};
-ghost use Rattle.leaf_runs.specs.Runs.{Leaf, IsTableRun, AreRuns, HasRunLeaf, HasLeaves, HasTwoLeaves, IsSeen, IsOnward, IsScanned, IsSpot, leaf_at, rows_of};
+ghost use Rattle.leaf_runs.specs.Runs.{Leaf, IsTableRun, AreRuns, HasRunLeaf, HasLeaves};
+ghost use Rattle.leaf_runs.specs.Runs.{HasTwoLeaves, IsSeen, IsOnward, IsScanned, IsSpot, leaf_at};
+ghost use Rattle.leaf_runs.specs.Runs.{rows_of};
 ghost use Rattle.leaf_runs.specs.Loose.{row_cost_of};
 
 use crate::catalogue::read_entry;
@@ -14,6 +16,7 @@ use crate::leaf::{Sight, copy_behind, copy_value, is_run_leaf, row_cost, see};
 use mdb_bytes::{CatalogueEntry, Pages};
 use mdb_model::bytes::{KeyBuf, ValueBuf};
 use mdb_model::fault::{Damage, Device, PageFault, Rule};
+use mdb_model::limits::MOST_BLOCKS;
 use mdb_model::name::Table;
 use row_page::next_of;
 
@@ -37,9 +40,12 @@ pub(crate) fn look<P: Pages>(
     key: &[u8],
 ) -> Result<Sight, PageFault>
     ensures seen { P.is_known pages.old → IfOk result (IsSeen (P.pages pages.old) page key.now) }
-    ensures same { P.is_known pages.old → OnOk result (P.is_known pages.new × (P.pages pages.new ≡ P.pages pages.old)) }
+    ensures same { P.is_known pages.old
+        → OnOk result (P.is_known pages.new × (P.pages pages.new ≡ P.pages pages.old)) }
     ensures spare { P.spare pages.old ≤ P.spare pages.new }
-    ensures cause { HasPageCause (P.is_known pages.old × HasRunLeaf (P.pages pages.old) table.0 page) (P.faults pages.old) (P.faults pages.new) result }
+    ensures cause { HasPageCause
+        (P.is_known pages.old × HasRunLeaf (P.pages pages.old) table.0 page) (P.faults pages.old)
+        (P.faults pages.new) result }
     ensures follows { P.follows pages.old pages.new }
 {
     if !pages.lives(page) {
@@ -69,15 +75,21 @@ pub(crate) fn locate<P: Pages>(
     entry: CatalogueEntry,
     key: &[u8],
 ) -> Result<Spot, PageFault>
-    ensures found { P.is_known pages.old → IfOk result (λ spot. (leaves : List Leaf) → IsTableRun (P.pages pages.old) table.0 entry leaves → 0 < length leaves → IsSpot leaves key.now spot.before spot.page) }
-    ensures same { P.is_known pages.old → OnOk result (P.is_known pages.new × (P.pages pages.new ≡ P.pages pages.old)) }
+    ensures found { P.is_known pages.old
+        → IfOk result
+        (λ spot. (leaves : List Leaf) → IsTableRun (P.pages pages.old) table.0 entry leaves
+        → 0 < length leaves → IsSpot leaves key.now spot.before spot.page) }
+    ensures same { P.is_known pages.old
+        → OnOk result (P.is_known pages.new × (P.pages pages.new ≡ P.pages pages.old)) }
     ensures spare { P.spare pages.old ≤ P.spare pages.new }
-    ensures cause { HasPageCause (P.is_known pages.old × HasLeaves (P.pages pages.old) table.0 entry) (P.faults pages.old) (P.faults pages.new) result }
+    ensures cause { HasPageCause
+        (P.is_known pages.old × HasLeaves (P.pages pages.old) table.0 entry) (P.faults pages.old)
+        (P.faults pages.new) result }
     ensures follows { P.follows pages.old pages.new }
 {
     let mut before = None;
     let mut page = entry.root;
-    for _ in 0..entry.pages.min(65_536) {
+    for _ in 0..entry.pages.min(MOST_BLOCKS) {
         let sight = look(pages, table, page, key)?;
         if sight.is_here {
             return Ok(Spot { before, page });
@@ -96,10 +108,16 @@ fn read_value<P: Pages>(
     key: &[u8],
     into: &mut ValueBuf,
 ) -> Result<bool, PageFault>
-    ensures found { P.is_known pages.old → IfOk result (λ found. (leaf : RowLeaf) × (leaf_at (P.pages pages.old) page ≡ Some leaf) × IsRow found (find by_bytes key.now leaf.rows) into.new.items) }
-    ensures same { P.is_known pages.old → OnOk result (P.is_known pages.new × (P.pages pages.new ≡ P.pages pages.old)) }
+    ensures found { P.is_known pages.old
+        → IfOk result
+        (λ found. (leaf : RowLeaf) × (leaf_at (P.pages pages.old) page ≡ Some leaf)
+        × IsRow found (find by_bytes key.now leaf.rows) into.new.items) }
+    ensures same { P.is_known pages.old
+        → OnOk result (P.is_known pages.new × (P.pages pages.new ≡ P.pages pages.old)) }
     ensures spare { P.spare pages.old ≤ P.spare pages.new }
-    ensures cause { HasPageCause (P.is_known pages.old × HasRunLeaf (P.pages pages.old) table.0 page) (P.faults pages.old) (P.faults pages.new) result }
+    ensures cause { HasPageCause
+        (P.is_known pages.old × HasRunLeaf (P.pages pages.old) table.0 page) (P.faults pages.old)
+        (P.faults pages.new) result }
     ensures follows { P.follows pages.old pages.new }
 {
     if !pages.lives(page) {
@@ -119,10 +137,16 @@ pub(crate) fn row_cost_at<P: Pages>(
     page: u32,
     key: &[u8],
 ) -> Result<u64, PageFault>
-    ensures cost { P.is_known pages.old → IfOk result (λ cost. (leaf : RowLeaf) × (leaf_at (P.pages pages.old) page ≡ Some leaf) × (cost ≡ row_cost_of key.now leaf.rows)) }
-    ensures same { P.is_known pages.old → OnOk result (P.is_known pages.new × (P.pages pages.new ≡ P.pages pages.old)) }
+    ensures cost { P.is_known pages.old
+        → IfOk result
+        (λ cost. (leaf : RowLeaf) × (leaf_at (P.pages pages.old) page ≡ Some leaf)
+        × (cost ≡ row_cost_of key.now leaf.rows)) }
+    ensures same { P.is_known pages.old
+        → OnOk result (P.is_known pages.new × (P.pages pages.new ≡ P.pages pages.old)) }
     ensures spare { P.spare pages.old ≤ P.spare pages.new }
-    ensures cause { HasPageCause (P.is_known pages.old × HasRunLeaf (P.pages pages.old) table.0 page) (P.faults pages.old) (P.faults pages.new) result }
+    ensures cause { HasPageCause
+        (P.is_known pages.old × HasRunLeaf (P.pages pages.old) table.0 page) (P.faults pages.old)
+        (P.faults pages.new) result }
     ensures follows { P.follows pages.old pages.new }
 {
     if !pages.lives(page) {
@@ -144,10 +168,15 @@ pub fn get<P: Pages>(
     into: &mut ValueBuf,
 ) -> Result<bool, PageFault>
     requires { IsTrue (is_table table.0) }
-    ensures found { P.is_known pages.old → AreRuns (P.pages pages.old) → IfOk result (λ found. IsRow found (get (rows_of (P.pages pages.old)) (table.0, key.now)) into.new.items) }
-    ensures same { P.is_known pages.old → OnOk result (P.is_known pages.new × (P.pages pages.new ≡ P.pages pages.old)) }
+    ensures found { P.is_known pages.old → AreRuns (P.pages pages.old)
+        → IfOk result
+        (λ found. IsRow found (get (rows_of (P.pages pages.old)) (table.0, key.now))
+        into.new.items) }
+    ensures same { P.is_known pages.old
+        → OnOk result (P.is_known pages.new × (P.pages pages.new ≡ P.pages pages.old)) }
     ensures spare { P.spare pages.old ≤ P.spare pages.new }
-    ensures cause { HasPageCause (P.is_known pages.old × AreRuns (P.pages pages.old)) (P.faults pages.old) (P.faults pages.new) result }
+    ensures cause { HasPageCause (P.is_known pages.old × AreRuns (P.pages pages.old))
+        (P.faults pages.old) (P.faults pages.new) result }
     ensures follows { P.follows pages.old pages.new }
 {
     let entry = read_entry(pages, table)?;
@@ -161,13 +190,13 @@ pub fn get<P: Pages>(
 /// What a scan learns of a leaf.
 #[derive(Clone, Copy, Debug)]
 pub(crate) struct Onward {
-    /// Whether the leaf has a row behind the key.
+    /// Whether the leaf has a row after the key.
     pub(crate) found: bool,
     /// The page of the next leaf, 0 for none.
     pub(crate) next: u32,
 }
 
-// Gives the first row of a leaf behind a key.
+// Copies the first row of a leaf after a key.
 fn read_behind<P: Pages>(
     pages: &mut P,
     table: Table,
@@ -176,10 +205,16 @@ fn read_behind<P: Pages>(
     key: &mut KeyBuf,
     value: &mut ValueBuf,
 ) -> Result<Onward, PageFault>
-    ensures found { P.is_known pages.old → IfOk result (λ onward. IsOnward (P.pages pages.old) page after.now onward.found onward.next key.new.items value.new.items) }
-    ensures same { P.is_known pages.old → OnOk result (P.is_known pages.new × (P.pages pages.new ≡ P.pages pages.old)) }
+    ensures found { P.is_known pages.old
+        → IfOk result
+        (λ onward. IsOnward (P.pages pages.old) page after.now onward.found onward.next
+        key.new.items value.new.items) }
+    ensures same { P.is_known pages.old
+        → OnOk result (P.is_known pages.new × (P.pages pages.new ≡ P.pages pages.old)) }
     ensures spare { P.spare pages.old ≤ P.spare pages.new }
-    ensures cause { HasPageCause (P.is_known pages.old × HasRunLeaf (P.pages pages.old) table.0 page) (P.faults pages.old) (P.faults pages.new) result }
+    ensures cause { HasPageCause
+        (P.is_known pages.old × HasRunLeaf (P.pages pages.old) table.0 page) (P.faults pages.old)
+        (P.faults pages.new) result }
     ensures follows { P.follows pages.old pages.new }
 {
     if !pages.lives(page) {
@@ -195,7 +230,7 @@ fn read_behind<P: Pages>(
     })
 }
 
-// Gives the first row behind a key, which is on a leaf or is the first one of the next leaf.
+// Copies the first row after a key, which is on a leaf or is the first one of the next leaf.
 fn scan_from<P: Pages>(
     pages: &mut P,
     table: Table,
@@ -204,10 +239,16 @@ fn scan_from<P: Pages>(
     key: &mut KeyBuf,
     value: &mut ValueBuf,
 ) -> Result<bool, PageFault>
-    ensures found { P.is_known pages.old → IfOk result (λ found. IsScanned (P.pages pages.old) page after.now found key.new.items value.new.items) }
-    ensures same { P.is_known pages.old → OnOk result (P.is_known pages.new × (P.pages pages.new ≡ P.pages pages.old)) }
+    ensures found { P.is_known pages.old
+        → IfOk result
+        (λ found. IsScanned (P.pages pages.old) page after.now found key.new.items
+        value.new.items) }
+    ensures same { P.is_known pages.old
+        → OnOk result (P.is_known pages.new × (P.pages pages.new ≡ P.pages pages.old)) }
     ensures spare { P.spare pages.old ≤ P.spare pages.new }
-    ensures cause { HasPageCause (P.is_known pages.old × HasTwoLeaves (P.pages pages.old) table.0 page) (P.faults pages.old) (P.faults pages.new) result }
+    ensures cause { HasPageCause
+        (P.is_known pages.old × HasTwoLeaves (P.pages pages.old) table.0 page) (P.faults pages.old)
+        (P.faults pages.new) result }
     ensures follows { P.follows pages.old pages.new }
 {
     let here = read_behind(pages, table, page, after, key, value)?;
@@ -231,10 +272,15 @@ pub fn scan_next<P: Pages>(
     value: &mut ValueBuf,
 ) -> Result<bool, PageFault>
     requires { IsTrue (is_table table.0) }
-    ensures found { P.is_known pages.old → AreRuns (P.pages pages.old) → IfOk result (λ found. IsNextRow found (next_row (rows_of (P.pages pages.old)) table.0 after.now) key.new.items value.new.items) }
-    ensures same { P.is_known pages.old → OnOk result (P.is_known pages.new × (P.pages pages.new ≡ P.pages pages.old)) }
+    ensures found { P.is_known pages.old → AreRuns (P.pages pages.old)
+        → IfOk result
+        (λ found. IsNextRow found (next_row (rows_of (P.pages pages.old)) table.0 after.now)
+        key.new.items value.new.items) }
+    ensures same { P.is_known pages.old
+        → OnOk result (P.is_known pages.new × (P.pages pages.new ≡ P.pages pages.old)) }
     ensures spare { P.spare pages.old ≤ P.spare pages.new }
-    ensures cause { HasPageCause (P.is_known pages.old × AreRuns (P.pages pages.old)) (P.faults pages.old) (P.faults pages.new) result }
+    ensures cause { HasPageCause (P.is_known pages.old × AreRuns (P.pages pages.old))
+        (P.faults pages.old) (P.faults pages.new) result }
     ensures follows { P.follows pages.old pages.new }
 {
     let entry = read_entry(pages, table)?;
@@ -248,11 +294,19 @@ pub fn scan_next<P: Pages>(
 /// How many pages a table has. They are no more than the space rule counts for its rows.
 pub fn pages<P: Pages>(pages: &mut P, table: Table) -> Result<u32, PageFault>
     requires { IsTrue (is_table table.0) }
-    ensures count { P.is_known pages.old → (tables : AreRuns (P.pages pages.old)) → IfOk result (λ count. count ≡ length (tables.runs table.0)) }
-    ensures bound { P.is_known pages.old → AreRuns (P.pages pages.old) → IfOk result (λ count. count ≤ table_pages (table_cost (rows_of (P.pages pages.old)) (rows_of (P.pages pages.old)) table.0)) }
-    ensures same { P.is_known pages.old → OnOk result (P.is_known pages.new × (P.pages pages.new ≡ P.pages pages.old)) }
+    ensures count { P.is_known pages.old → (tables : AreRuns (P.pages pages.old))
+        → IfOk result (λ count. count ≡ length (tables.runs table.0)) }
+    ensures bound { P.is_known pages.old → AreRuns (P.pages pages.old)
+        → IfOk result
+        (λ count. count
+        ≤ table_pages
+        (table_cost (rows_of (P.pages pages.old)) (rows_of (P.pages pages.old))
+        table.0)) }
+    ensures same { P.is_known pages.old
+        → OnOk result (P.is_known pages.new × (P.pages pages.new ≡ P.pages pages.old)) }
     ensures spare { P.spare pages.old ≤ P.spare pages.new }
-    ensures cause { HasPageCause (P.is_known pages.old × AreRuns (P.pages pages.old)) (P.faults pages.old) (P.faults pages.new) result }
+    ensures cause { HasPageCause (P.is_known pages.old × AreRuns (P.pages pages.old))
+        (P.faults pages.old) (P.faults pages.new) result }
     ensures follows { P.follows pages.old pages.new }
 {
     let entry = read_entry(pages, table)?;

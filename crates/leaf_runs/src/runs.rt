@@ -9,9 +9,9 @@ use mdb_model::bytes::{KeyBuf, ValueBuf};
 use mdb_model::fault::PageFault;
 use mdb_model::name::Table;
 
-/// The rows of all tables as lists of leaves, over a keeper of pages. They are known where the bytes
-/// of the pages are, and the catalogue and the leaves on them keep their form. Where `put` or `del`
-/// fails, its table may have been left half changed.
+/// The rows of all tables as lists of leaves, over a keeper of pages. They are known where the
+/// bytes of the pages are, and the catalogue and the leaves on them keep their form. Where `put` or
+/// `del` fails, its table may have been left half changed.
 #[derive(Drop)]
 pub struct Runs<P> {
     /// The pages that the tables stand on. A page that is no part of a table is left as it is.

@@ -1,10 +1,12 @@
 //! What is done to a run after a change, so that its leaves fill two pages each.
-ghost use Rattle.std.specs.Prelude.{◌≡◌, ◌+◌, ◌≤◌, ◌++◌, ◌∷◌, [], ℕ, List, Option, IsTrue, IfOk, OnOk};
+ghost use Rattle.std.specs.Prelude.{◌≡◌, ◌+◌, ◌≤◌, ◌++◌, ◌∷◌, [], ℕ};
+ghost use Rattle.std.specs.Prelude.{List, Option, IsTrue, IfOk, OnOk};
 ghost use Rattle.mdb_bytes.specs.Parts.{page_room};
 ghost use Rattle.mdb_bytes.specs.Held.{HasPageCause};
 ghost use Rattle.mdb_bytes.specs.Forms.{Neighbours};
 ghost use Rattle.leaf_runs.specs.Runs.{Leaf, FillTwo};
-ghost use Rattle.leaf_runs.specs.Loose.{IsLooseRun, Rewrites, HasHere, IsJoinTry, IsChangedRun, HasChangedRun, IsSettled};
+ghost use Rattle.leaf_runs.specs.Loose.{IsLooseRun, Rewrites, HasHere, IsJoinTry, IsChangedRun};
+ghost use Rattle.leaf_runs.specs.Loose.{HasChangedRun, IsSettled};
 ghost use Rattle.leaf_runs.specs.Steps.{HasLeaf};
 ghost use Rattle.leaf_runs.specs.Tries.{IsFilled, IsOptionTry, HasOptionHere};
 
@@ -13,11 +15,9 @@ use crate::reading::broken;
 use crate::writing::join_leaves;
 use mdb_bytes::Pages;
 use mdb_model::fault::{PageFault, Rule};
+use mdb_model::limits::PAGE_ROOM;
 use mdb_model::name::Table;
 use row_page::{next_of, used_of};
-
-// The bytes that rows can use of a page.
-const PAGE_ROOM: usize = 8128;
 
 /// What is asked of a leaf before it is joined.
 #[derive(Clone, Copy, Debug)]
@@ -30,11 +30,14 @@ struct Fill {
 
 // How full a leaf is, and which page it names as the next one.
 fn used_and_next<P: Pages>(pages: &mut P, table: Table, page: u32) -> Result<Fill, PageFault>
-    ensures filled { P.is_known pages.old → IfOk result (IsFilled (P.pages pages.old) table.0 page) }
+    ensures filled { P.is_known pages.old
+        → IfOk result (IsFilled (P.pages pages.old) table.0 page) }
     ensures within { IfOk result (λ fill. fill.used ≤ page_room) }
-    ensures same { P.is_known pages.old → OnOk result (P.is_known pages.new × (P.pages pages.new ≡ P.pages pages.old)) }
+    ensures same { P.is_known pages.old
+        → OnOk result (P.is_known pages.new × (P.pages pages.new ≡ P.pages pages.old)) }
     ensures spare { P.spare pages.old ≤ P.spare pages.new }
-    ensures cause { HasPageCause (P.is_known pages.old × HasLeaf (P.pages pages.old) table.0 page) (P.faults pages.old) (P.faults pages.new) result }
+    ensures cause { HasPageCause (P.is_known pages.old × HasLeaf (P.pages pages.old) table.0 page)
+        (P.faults pages.old) (P.faults pages.new) result }
     ensures follows { P.follows pages.old pages.new }
 {
     if !pages.lives(page) {
@@ -58,11 +61,14 @@ pub(crate) fn join_if_fits<P: Pages>(
     first: u32,
 ) -> Result<bool, PageFault>
     requires room { 2 ≤ P.spare pages.old }
-    ensures joined { P.is_known pages.old → (front : List Leaf) (here : Leaf) (back : List Leaf) → IsLooseRun (P.pages pages.old) table.0 (front ++ here ∷ back) → here.page ≡ first → Neighbours FillTwo back
+    ensures joined { P.is_known pages.old → (front : List Leaf) (here : Leaf) (back : List Leaf)
+        → IsLooseRun (P.pages pages.old) table.0 (front ++ here ∷ back) → here.page ≡ first
+        → Neighbours FillTwo back
         → IfOk result (IsJoinTry (P.pages pages.old) (P.pages pages.new) table.0 front here back) }
     ensures known { P.is_known pages.old → OnOk result (P.is_known pages.new) }
     ensures spare { P.spare pages.old ≤ P.spare pages.new + 2 }
-    ensures cause { HasPageCause (P.is_known pages.old × HasHere (P.pages pages.old) table.0 first) (P.faults pages.old) (P.faults pages.new) result }
+    ensures cause { HasPageCause (P.is_known pages.old × HasHere (P.pages pages.old) table.0 first)
+        (P.faults pages.old) (P.faults pages.new) result }
     ensures follows { P.follows pages.old pages.new }
 {
     let here = used_and_next(pages, table, first)?;
@@ -88,11 +94,14 @@ pub(crate) fn join_if_fits<P: Pages>(
 // Joins a leaf with the next one as above, where there is a leaf, and counts the joins.
 fn join_some<P: Pages>(pages: &mut P, table: Table, page: Option<u32>) -> Result<u32, PageFault>
     requires room { 2 ≤ P.spare pages.old }
-    ensures tried { P.is_known pages.old → IfOk result (IsOptionTry (P.pages pages.old) (P.pages pages.new) table.0 page) }
+    ensures tried { P.is_known pages.old
+        → IfOk result (IsOptionTry (P.pages pages.old) (P.pages pages.new) table.0 page) }
     ensures few { IfOk result (λ joined. joined ≤ 1) }
     ensures known { P.is_known pages.old → OnOk result (P.is_known pages.new) }
     ensures spare { P.spare pages.old ≤ P.spare pages.new + 2 }
-    ensures cause { HasPageCause (P.is_known pages.old × HasOptionHere (P.pages pages.old) table.0 page) (P.faults pages.old) (P.faults pages.new) result }
+    ensures cause { HasPageCause
+        (P.is_known pages.old × HasOptionHere (P.pages pages.old) table.0 page) (P.faults pages.old)
+        (P.faults pages.new) result }
     ensures follows { P.follows pages.old pages.new }
 {
     let Some(page) = page else {
@@ -113,15 +122,19 @@ pub(crate) fn settle<P: Pages>(
     other: Option<u32>,
 ) -> Result<u32, PageFault>
     requires room { 6 ≤ P.spare pages.old }
-    ensures settled { P.is_known pages.old → (front parts back : List Leaf) → IsChangedRun (P.pages pages.old) table.0 front parts back before page other
-        → IfOk result (IsSettled (P.pages pages.old) (P.pages pages.new) table.0 (front ++ (parts ++ back))) }
+    ensures settled { P.is_known pages.old → (front parts back : List Leaf)
+        → IsChangedRun (P.pages pages.old) table.0 front parts back before page other
+        → IfOk result
+        (IsSettled (P.pages pages.old) (P.pages pages.new) table.0 (front ++ (parts ++ back))) }
     ensures few { IfOk result (λ joined. joined ≤ 3) }
     ensures known { P.is_known pages.old → OnOk result (P.is_known pages.new) }
     ensures spare { P.spare pages.old ≤ P.spare pages.new + 6 }
-    ensures cause { HasPageCause (P.is_known pages.old × HasChangedRun (P.pages pages.old) table.0 before page other) (P.faults pages.old) (P.faults pages.new) result }
+    ensures cause { HasPageCause
+        (P.is_known pages.old × HasChangedRun (P.pages pages.old) table.0 before page other)
+        (P.faults pages.old) (P.faults pages.new) result }
     ensures follows { P.follows pages.old pages.new }
 {
-    // From right to left: the leaves behind the one in question fill two pages each by then.
+    // From right to left: the leaves after the one in question fill two pages each by then.
     let behind = join_some(pages, table, other)?;
     let here = join_some(pages, table, Some(page))?;
     let ahead = join_some(pages, table, before)?;
@@ -130,10 +143,16 @@ pub(crate) fn settle<P: Pages>(
 
 /// Takes the only leaf of a table away. Where the call fails, the leaf stays.
 pub(crate) fn drop_leaf<P: Pages>(pages: &mut P, page: u32) -> Result<(), PageFault>
-    ensures dropped { P.is_known pages.old → (table : ℕ) (here : Leaf) → IsLooseRun (P.pages pages.old) table (here ∷ []) → here.page ≡ page → OnOk result (Rewrites (P.pages pages.old) (P.pages pages.new) table []) }
+    ensures dropped { P.is_known pages.old → (table : ℕ) (here : Leaf)
+        → IsLooseRun (P.pages pages.old) table (here ∷ []) → here.page ≡ page
+        → OnOk result (Rewrites (P.pages pages.old) (P.pages pages.new) table []) }
     ensures known { P.is_known pages.old → OnOk result (P.is_known pages.new) }
     ensures spare { P.spare pages.old ≤ P.spare pages.new }
-    ensures cause { HasPageCause (P.is_known pages.old × ((table : ℕ) × (here : Leaf) × IsLooseRun (P.pages pages.old) table (here ∷ []) × (here.page ≡ page))) (P.faults pages.old) (P.faults pages.new) result }
+    ensures cause { HasPageCause
+        (P.is_known pages.old
+        × ((table : ℕ) × (here : Leaf) × IsLooseRun (P.pages pages.old) table (here ∷ [])
+        × (here.page ≡ page)))
+        (P.faults pages.old) (P.faults pages.new) result }
     ensures follows { P.follows pages.old pages.new }
 {
     if !pages.lives(page) {

@@ -1,19 +1,10 @@
 //! The program: makes a database in a folder, or runs a script from the standard input on it.
 #![tactic(auto)]
 
-mod asked;
-mod call;
-mod lines;
-mod making;
-mod run;
-mod saying;
-mod window;
-mod words;
-
-use crate::call::run;
 use mdb_host::{FileHost, StdSource};
 use mdb_model::fault::Memory;
 use mdb_model::status::Status;
+use script_run::call::run;
 use std::env;
 use std::process::ExitCode;
 

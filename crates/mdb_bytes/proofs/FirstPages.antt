@@ -105,6 +105,7 @@ well_formed = record {
       empty_table (table + 1) entry numbers (slice_get-replicate _ entry 500 table is_entry) (slice_get-replicate [] numbers 500 table is_numbers);
   all_tables = refl;
   undo = tt;
+  apart = refl;
   named = λ number. (
     λ there. elim (named_is number (ap is_some (sym (get_is number)) ∙ there)) [ inl z ↦ inl z | inr o ↦ inr (inl o) ],
     λ named. elim named [

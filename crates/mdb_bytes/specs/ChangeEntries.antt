@@ -1,7 +1,8 @@
 -- Where the parts of a change stand in the bytes of a group.
 --     table_of, kind_of, key_of, value_of      the parts of a change
 --     entry_in      the places of a change that begins at a place
---     IsEntry, FindsEntry      places are those of a change; of the change with a number, counted from 0
+--     IsEntry, FindsEntry      places are those of a change; of the change with a number, counted
+--         from 0
 --     Skips      the bytes behind the first changes
 use Rattle.std.specs.Prelude.{◌≡◌, ℕ, ◌+◌, ◌-◌, ◌<◌, ◌≤◌, List, [], length, take, drop, slice_get, Option, Some, None}
 use Rattle.std.specs.Borrow.{Bor}
@@ -39,13 +40,16 @@ entry_in place change = record {
 abbrev pub IsEntry : List ℕ → ChangeEntry → Change → Type 0
 IsEntry bytes entry change =
     (entry.table ≡ table_of change) × (entry.kind ≡ kind_of change)
-    × (take entry.key.1 (drop entry.key.0 bytes) ≡ key_of change) × (entry.key.1 ≡ length (key_of change))
-    × (take entry.value.1 (drop entry.value.0 bytes) ≡ value_of change) × (entry.value.1 ≡ length (value_of change))
+    × (take entry.key.1 (drop entry.key.0 bytes) ≡ key_of change)
+    × (entry.key.1 ≡ length (key_of change))
+    × (take entry.value.1 (drop entry.value.0 bytes) ≡ value_of change)
+    × (entry.value.1 ≡ length (value_of change))
 
 -- the change with this number, or none where there are no more
 abbrev pub FindsEntry : List ℕ → List Change → ℕ → Option ChangeEntry → Type 0
 FindsEntry bytes changes i None = length changes ≤ i
-FindsEntry bytes changes i (Some entry) = (change : Change) × (slice_get changes i ≡ Some change) × IsEntry bytes entry change
+FindsEntry bytes changes i (Some entry) =
+    (change : Change) × (slice_get changes i ≡ Some change) × IsEntry bytes entry change
 
 -- what stands behind n changes, or none where there are fewer
 abbrev pub Skips : List ℕ → ℕ → Option (Bor (List ℕ)) → Type 0

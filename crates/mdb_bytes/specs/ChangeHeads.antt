@@ -8,11 +8,17 @@ use Rattle.mdb_bytes.specs.Fields.{number_at}
 -- what stands at its places
 abbrev pub head_in : List ℕ → ChangeHead
 head_in bytes =
-    record { table = number_at 2 0 bytes; kind = number_at 1 2 bytes; key_len = number_at 2 3 bytes; value_len = number_at 2 5 bytes }
+    record {
+      table = number_at 2 0 bytes;
+      kind = number_at 1 2 bytes;
+      key_len = number_at 2 3 bytes;
+      value_len = number_at 2 5 bytes;
+    }
 
 -- that of a change
 abbrev pub head_for : Change → ChangeHead
-head_for (Put table key value) = record { table = table.0; kind = 1; key_len = length key; value_len = length value }
+head_for (Put table key value) =
+    record { table = table.0; kind = 1; key_len = length key; value_len = length value }
 head_for (Del table key) = record { table = table.0; kind = 2; key_len = length key; value_len = 0 }
 
 abbrev pub KeepsHead : ChangeHead → Type 0

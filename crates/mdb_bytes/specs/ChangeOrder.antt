@@ -22,7 +22,10 @@ follows (Some last) place = is_lt (place_cmp last place)
 
 abbrev pub ascends : Option Place → List Change → Bool
 ascends last [] = true
-ascends last (change ∷ changes) = follows last (place_of change) && ascends (Some (place_of change)) changes
+ascends last (change ∷ changes) =
+    follows last (place_of change) && ascends (Some (place_of change)) changes
 
 unfoldable pub IsRun : Option Place → ℕ → List ℕ → Type 0
-IsRun last n bytes = (changes : List Change) × (length changes ≡ n) × IsTrue (ascends last changes) × HasChanges bytes changes
+IsRun last n bytes =
+    (changes : List Change) × (length changes ≡ n) × IsTrue (ascends last changes)
+    × HasChanges bytes changes

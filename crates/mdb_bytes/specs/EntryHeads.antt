@@ -15,7 +15,13 @@ use Rattle.mdb_bytes.specs.UndoPages.{UndoEntry, before_bytes, before_kind}
 
 -- what stands at the places of the front of a row
 abbrev pub row_head_in : List ℕ → RowHead
-row_head_in bytes = record { key_len = number_at 2 0 bytes; value_len = number_at 2 2 bytes; zero = number_at 2 4 bytes }
+row_head_in bytes =
+    record {
+      key_len = number_at 2 0 bytes;
+      value_len = number_at 2 2 bytes;
+      zero = number_at 2 4
+          bytes;
+    }
 
 -- the front of a row
 abbrev pub row_head_for : Row → RowHead
@@ -62,8 +68,10 @@ undo_head_for v = record {
 -- nothing stood there before where there was no row
 abbrev pub KeepsUndoHead : UndoHead → Type 0
 KeepsUndoHead h =
-    ((1 ≤ h.table) × (h.table ≤ 500)) × ((h.kind ≡ 1) ⊎ ((h.kind ≡ 0) × (h.before_len ≡ 0))) × (h.zero ≡ 0)
-    × ((1 ≤ h.key_len) × (h.key_len ≤ 256) × (h.before_len ≤ longest_value)) × ((1 ≤ h.number) × (h.number < number_end))
+    ((1 ≤ h.table) × (h.table ≤ 500)) × ((h.kind ≡ 1) ⊎ ((h.kind ≡ 0) × (h.before_len ≡ 0)))
+    × (h.zero ≡ 0)
+    × ((1 ≤ h.key_len) × (h.key_len ≤ 256) × (h.before_len ≤ longest_value))
+    × ((1 ≤ h.number) × (h.number < number_end))
 
 -- the bytes have room for the front and for what it tells
 abbrev pub HasWholeUndo : List ℕ → UndoHead → Type 0

@@ -36,17 +36,39 @@ pub record Layout (X : Type 0) : Type 0 where
 -- that of a row leaf
 abbrev pub row_layout : (longest : ℕ) → Layout Row
 row_layout longest =
-    record { entry = row_format longest; key = λ row. Some row.0; len = row_len; cost = row_cost; slot = λ at. Two at ∷ []; slots = slot_fields }
+    record {
+      entry = row_format longest;
+      key = λ row. Some row.0;
+      len = row_len;
+      cost = row_cost;
+      slot = λ at. Two at ∷ [];
+      slots = slot_fields;
+    }
 
 -- that of an index page
 abbrev pub child_layout : Layout Child
 child_layout =
-    record { entry = child_format; key = λ child. Some child.0; len = child_len; cost = child_cost; slot = λ at. Two at ∷ []; slots = slot_fields }
+    record {
+      entry = child_format;
+      key = λ child. Some child.0;
+      len = child_len;
+      cost = child_cost;
+      slot = λ at. Two at ∷ [];
+      slots = slot_fields;
+    }
 
 -- the entries of an undo page have no slots and no order
 abbrev pub undo_layout : (longest : ℕ) → Layout UndoEntry
 undo_layout longest =
-    record { entry = undo_entry_format longest; key = λ v. None; len = undo_entry_len; cost = undo_entry_len; slot = λ at. []; slots = λ at lens. [] }
+    record {
+      entry = undo_entry_format longest;
+      key = λ v. None;
+      len = undo_entry_len;
+      cost =
+          undo_entry_len;
+      slot = λ at. [];
+      slots = λ at lens. [];
+    }
 
 -- Entries
 
@@ -67,14 +89,20 @@ ascend layout last (x ∷ xs) = follows last (layout.key x) && ascend layout (la
 
 -- the bytes of an entry that keeps its limits, and then the rest
 abbrev pub BeginsWith : {X : Type 0} → Format X → X → (bytes rest : List ℕ) → Type 0
-BeginsWith format x bytes rest = IsTrue (format.fits x && fields_fit (format.fields x)) × (bytes ≡ spelled (format.fields x) ++ rest)
+BeginsWith format x bytes rest =
+    IsTrue (format.fits x && fields_fit (format.fields x))
+    × (bytes ≡ spelled (format.fields x) ++ rest)
 
 -- the bytes of entries that keep their limits, one behind the other
 abbrev pub HasEntries : {X : Type 0} → Format X → List ℕ → List X → Type 0
-HasEntries format bytes xs = IsTrue (list_all format.fits xs && fields_fit (flat_map format.fields xs)) × (bytes ≡ spelled (flat_map format.fields xs))
+HasEntries format bytes xs =
+    IsTrue (list_all format.fits xs && fields_fit (flat_map format.fields xs))
+    × (bytes ≡ spelled (flat_map format.fields xs))
 
--- the bytes are so many entries, which stand behind this key and ascend; the first is at this place of its page
-pub record IsRun {X : Type 0} (layout : Layout X) (last : Option (List ℕ)) (count at : ℕ) (bytes slots : List ℕ) : Type 0 where
+-- the bytes are so many entries, which stand behind this key and ascend; the first is at this place
+-- of its page
+pub record IsRun {X : Type 0} (layout : Layout X) (last : Option (List ℕ)) (count at : ℕ)
+    (bytes slots : List ℕ) : Type 0 where
   pub entries : List X
   pub all : length entries ≡ count
   pub order : ascend layout last entries ≡ true
@@ -101,33 +129,68 @@ page_head_in bytes = record {
 
 -- the header of each kind of pages
 abbrev pub leaf_head : RowLeaf → PageHead
-leaf_head v = record { kind = 1; level = 0; table = v.table; number = v.number; count = length v.rows; used = rows_cost v.rows; next = v.next }
+leaf_head v =
+    record {
+      kind = 1;
+      level = 0;
+      table = v.table;
+      number = v.number;
+      count = length v.rows;
+      used =
+          rows_cost v.rows;
+      next = v.next;
+    }
 
 abbrev pub index_head : IndexPage → PageHead
-index_head v = record { kind = 2; level = v.level; table = v.table; number = v.number; count = length v.children; used = children_cost v.children; next = 0 }
+index_head v =
+    record {
+      kind = 2;
+      level = v.level;
+      table = v.table;
+      number = v.number;
+      count = length
+          v.children;
+      used = children_cost v.children;
+      next = 0;
+    }
 
 abbrev pub undo_head : UndoPage → PageHead
-undo_head v = record { kind = 3; level = 0; table = 0; number = v.number; count = length v.entries; used = undo_cost v.entries; next = v.next }
+undo_head v =
+    record {
+      kind = 3;
+      level = 0;
+      table = 0;
+      number = v.number;
+      count = length v.entries;
+      used =
+          undo_cost v.entries;
+      next = v.next;
+    }
 
 -- The parts of a page
 
 -- the header, the entries, zeros where nothing is used, and the slots, each of so many bytes
-pub record HasSections (slot_len : ℕ) (head : PageHead) (entries slots bytes : List ℕ) : Type 0 where
+pub record HasSections (slot_len : ℕ) (head : PageHead) (entries slots bytes : List ℕ)
+    : Type 0 where
   pub fits : IsTrue (fields_fit (page_head_fields head))
   pub used : length entries + length slots ≡ head.used
   pub counted : length slots ≡ slot_len * head.count
   pub within : head.used ≤ page_room
-  pub whole : bytes ≡ spelled (page_head_fields head) ++ (entries ++ (replicate (page_room - head.used) 0 ++ slots))
+  pub whole : bytes ≡ spelled (page_head_fields head)
+      ++ (entries ++ (replicate (page_room - head.used) 0 ++ slots))
 
 -- the parts of a page, or none where the bytes have no such parts
 abbrev pub FindsSections : (slot_len : ℕ) → List ℕ → Option Sections → Type 0
-FindsSections slot_len bytes None = (head : PageHead) (entries slots : List ℕ) → HasSections slot_len head entries slots bytes → ⊥
+FindsSections slot_len bytes None =
+    (head : PageHead) (entries slots : List ℕ) → HasSections slot_len head entries slots bytes → ⊥
 FindsSections slot_len bytes (Some s) = HasSections slot_len s.head s.entries.now s.slots.now bytes
 
 -- the place in the slot with this number, counted from 0, and what stands from there on
 abbrev pub FindsFront : List ℕ → (i : ℕ) → Option (ℕ × Bor (List ℕ)) → Type 0
 FindsFront bytes i None =
-    length bytes ≡ page_len → i < count_on bytes → 2 * i < page_room → length bytes < number_at 2 (length bytes - 2 * (i + 1)) bytes
+    length bytes ≡ page_len → i < count_on bytes → 2 * i < page_room
+    → length bytes < number_at 2 (length bytes - 2 * (i + 1)) bytes
 FindsFront bytes i (Some r) =
-    (length bytes ≡ page_len) × (i < count_on bytes) × (2 * i < page_room) × (r.0 ≡ number_at 2 (length bytes - 2 * (i + 1)) bytes)
+    (length bytes ≡ page_len) × (i < count_on bytes) × (2 * i < page_room)
+    × (r.0 ≡ number_at 2 (length bytes - 2 * (i + 1)) bytes)
     × (r.0 ≤ length bytes) × (r.1.now ≡ drop r.0 bytes)

@@ -1,5 +1,5 @@
--- What the creation of a database writes: the catalogue on block 2, the open list on block 3, the converter's leaves
--- from block 4 on, its root behind them, the log info, and the restart record.
+-- What the creation of a database writes: the catalogue on block 2, the open list on block 3, the
+-- converter's leaves from block 4 on, its root behind them, the log info, and the restart record.
 --     leaf_count, first_root_block      how many leaves an area has, and where the root stands
 --     first_restart, first_log_info      the records
 --     first_catalogue, first_open_list, first_leaf, first_root      the pages
@@ -75,16 +75,24 @@ no_entry = record { block = 0; stamp = 0 }
 
 -- the catalogue is page 0, the open list page 1, and there is no other page
 abbrev pub first_leaf : (leaf : ℕ) → ConverterLeaf
-first_leaf zero = record { leaf = 0; savepoint = 1; entries = record { block = 2; stamp = 1 } ∷ record { block = 3; stamp = 1 } ∷ replicate 598 no_entry }
+first_leaf zero =
+    record {
+      leaf = 0;
+      savepoint = 1;
+      entries = record { block = 2; stamp = 1 }
+          ∷ record { block = 3; stamp = 1 } ∷ replicate 598 no_entry;
+    }
 first_leaf (suc leaf) = record { leaf = suc leaf; savepoint = 1; entries = replicate 600 no_entry }
 
 abbrev pub first_root : (blocks : ℕ) → ConverterRoot
-first_root blocks = record { savepoint = 1; leaves = record { items = range_with_len 4 (leaf_count blocks) } }
+first_root blocks =
+    record { savepoint = 1; leaves = record { items = range_with_len 4 (leaf_count blocks) } }
 
 -- the bytes of a block from 2 up to the root
 unfoldable pub first_block : (blocks block : ℕ) → List ℕ
 first_block blocks block =
     if block == 2 then spelled (catalogue_fields first_catalogue)
     else if block == 3 then spelled (open_list_fields first_open_list)
-    else if nat_lt block (first_root_block blocks) then spelled (converter_leaf_fields (first_leaf (block - 4)))
+    else if nat_lt block (first_root_block blocks)
+    then spelled (converter_leaf_fields (first_leaf (block - 4)))
     else spelled (converter_root_fields (first_root blocks))

@@ -4,7 +4,7 @@
 --     IsUndoFile      the undo pages of a transaction
 --     IsWellFormed      all pages are in their forms and where they are named
 --     reading      what the bytes of a page map mean, for the model
-use Rattle.std.specs.Prelude.{◌≡◌, ◌≢◌, ◌⊎◌, ℕ, zero, suc, ◌+◌, ◌<◌, ◌≤◌, List, [], ◌∷◌, IsSome, ◌↔◌, MatchBool, length, map, reverse, Option, Some, None, IfSome, unwrap_or, option_map, sum_by, slice_get, Contains}
+use Rattle.std.specs.Prelude.{◌≡◌, ◌≢◌, ◌⊎◌, ℕ, zero, suc, ◌+◌, ◌<◌, ◌≤◌, List, [], ◌∷◌, IsSome, IsTrue, ◌==◌, ◌↔◌, MatchBool, length, map, reverse, Option, Some, None, IfSome, unwrap_or, option_map, sum_by, slice_get, Contains}
 use Rattle.std.specs.List.{flat_map, AllByRecursion, AllZip, range_with_len}
 use Rattle.std.specs.Ordering.{nat_cmp}
 use Rattle.std.specs.declared.cmp.Ordering.TheVariants.{Less}
@@ -15,15 +15,17 @@ use Rattle.mdb_bytes.specs.declared.logical_pages.CatalogueEntry.{CatalogueEntry
 use Rattle.mdb_bytes.specs.declared.logical_pages.Catalogue.{Catalogue}
 use Rattle.mdb_bytes.specs.declared.logical_pages.OpenEntry.{OpenEntry}
 use Rattle.mdb_bytes.specs.declared.logical_pages.OpenList.{OpenList}
+use Rattle.mdb_bytes.specs.Fields.{all_differ}
 use Rattle.mdb_bytes.specs.Parts.{page_room}
 use Rattle.mdb_bytes.specs.TablePages.{RowLeaf, Child, IndexPage, rows_cost, children_cost}
-use Rattle.mdb_bytes.specs.UndoPages.{UndoPage}
+use Rattle.mdb_bytes.specs.UndoPages.{UndoPage, undo_cost, undo_entry_len}
 use Rattle.mdb_bytes.specs.PageReadings.{row_leaf_of, index_of, undo_page_of, catalogue_of, open_list_of, page_as, standing_rows, rows_before, undo_page_count}
 use Rattle.mdb_bytes.specs.Stages.{tables_are_trees}
 
 -- the key is not below the first one, and below the second one where there is one
 abbrev pub IsBetween : List ℕ → Option (List ℕ) → List ℕ → Type 0
-IsBetween low high key = (slice_cmp nat_cmp key low ≢ Less) × IfSome high (λ end. slice_cmp nat_cmp key end ≡ Less)
+IsBetween low high key =
+    (slice_cmp nat_cmp key low ≢ Less) × IfSome high (λ end. slice_cmp nat_cmp key end ≡ Less)
 
 -- each and the next
 abbrev pub Neighbours : {X : Type 0} → (X → X → Type 0) → List X → Type 0
@@ -34,11 +36,14 @@ Neighbours R (x ∷ y ∷ xs) = R x y × Neighbours R (y ∷ xs)
 module _ (pages : PageMap) where
   -- what the rows on a page cost, and 0 where it is no leaf
   abbrev pub cost_of_rows : ℕ → ℕ
-  cost_of_rows number = unwrap_or (option_map (λ leaf. rows_cost leaf.rows) (page_as row_leaf_of pages number)) 0
+  cost_of_rows number =
+      unwrap_or (option_map (λ leaf. rows_cost leaf.rows) (page_as row_leaf_of pages number)) 0
 
   -- the bytes that the entries on a page of a table use
   abbrev pub used_by : ℕ → ℕ
-  used_by number = cost_of_rows number + unwrap_or (option_map (λ index. children_cost index.children) (page_as index_of pages number)) 0
+  used_by number =
+      cost_of_rows number + unwrap_or (option_map (λ index. children_cost index.children)
+      (page_as index_of pages number)) 0
 
   -- the rows of two neighbours do not go on one page
   abbrev pub FillTwo : ℕ → ℕ → Type 0
@@ -62,12 +67,16 @@ module _ (pages : PageMap) where
   end_before (next ∷ more) high = Some next.0
 
   -- each child has the keys from its separator up to the next one's
-  abbrev pub AreChildren : (ℕ → List ℕ → Option (List ℕ) → Type 0) → List Child → Option (List ℕ) → Type 0
+  abbrev pub AreChildren : (ℕ → List ℕ → Option (List ℕ) → Type 0) → List Child → Option (List ℕ)
+      → Type 0
   AreChildren IsChild [] high = Unit {0}
-  AreChildren IsChild (child ∷ more) high = IsChild child.1 child.0 (end_before more high) × AreChildren IsChild more high
+  AreChildren IsChild (child ∷ more) high =
+      IsChild child.1 child.0 (end_before more high) × AreChildren IsChild more high
 
-  -- an index page of a table at a level, whose first separator is where its keys begin, over such children
-  pub record IsIndexPage (table level number : ℕ) (low : List ℕ) (high : Option (List ℕ)) (IsChild : ℕ → List ℕ → Option (List ℕ) → Type 0) : Type 0 where
+  -- an index page of a table at a level, whose first separator is where its keys begin, over such
+  -- children
+  pub record IsIndexPage (table level number : ℕ) (low : List ℕ) (high : Option (List ℕ))
+      (IsChild : ℕ → List ℕ → Option (List ℕ) → Type 0) : Type 0 where
     pub index : IndexPage
     pub there : page_as index_of pages number ≡ Some index
     pub of_table : index.table ≡ table
@@ -79,13 +88,17 @@ module _ (pages : PageMap) where
     pub filled : Neighbours (λ a b. FillTwo a.1 b.1) index.children
 
   -- the page is the top of a tree of so many levels above the leaves, with keys in these bounds
-  abbrev pub IsTree : (table level : ℕ) → (number : ℕ) → (low : List ℕ) → (high : Option (List ℕ)) → Type 0
+  abbrev pub IsTree : (table level : ℕ) → (number : ℕ) → (low : List ℕ) → (high : Option (List ℕ))
+      → Type 0
   IsTree table zero number low high = IsLeafPage table number low high
-  IsTree table (suc level) number low high = IsIndexPage table (suc level) number low high (IsTree table level)
+  IsTree table (suc level) number low high =
+      IsIndexPage table (suc level) number low high (IsTree table level)
 
   -- the pages right below an index page
   abbrev pub children_of : ℕ → List ℕ
-  children_of number = unwrap_or (option_map (λ index. map (λ child. child.1) index.children) (page_as index_of pages number)) []
+  children_of number =
+      unwrap_or (option_map (λ index. map (λ child. child.1) index.children)
+      (page_as index_of pages number)) []
 
   -- the pages of such a tree
   abbrev pub pages_below : (level number : ℕ) → List ℕ
@@ -119,11 +132,14 @@ module _ (pages : PageMap) where
   -- each leaf names the next one, and the last one names none
   abbrev pub AreLinked : ℕ → List ℕ → Type 0
   AreLinked table [] = Unit {0}
-  AreLinked table (number ∷ numbers) = IsRunPage table number (first_or_none numbers) × AreLinked table numbers
+  AreLinked table (number ∷ numbers) =
+      IsRunPage table number (first_or_none numbers) × AreLinked table numbers
 
   -- the keys of a leaf
   abbrev pub keys_on : ℕ → List (List ℕ)
-  keys_on number = unwrap_or (option_map (λ leaf. map (λ row. row.0) leaf.rows) (page_as row_leaf_of pages number)) []
+  keys_on number =
+      unwrap_or (option_map (λ leaf. map (λ row. row.0) leaf.rows)
+      (page_as row_leaf_of pages number)) []
 
   -- a list of leaves from the first one on, with all keys in order
   pub record IsRun (table first : ℕ) (numbers : List ℕ) : Type 0 where
@@ -136,7 +152,8 @@ module _ (pages : PageMap) where
 
   -- the pages of a table that has rows
   abbrev pub IsBody : (table first : ℕ) (numbers : List ℕ) → Type 0
-  IsBody table first numbers = MatchBool tables_are_trees (IsWholeTree table first numbers) (IsRun table first numbers)
+  IsBody table first numbers =
+      MatchBool tables_are_trees (IsWholeTree table first numbers) (IsRun table first numbers)
 
   -- a table on these pages, as the catalogue has it
   pub record IsTable (table : ℕ) (entry : CatalogueEntry) (numbers : List ℕ) : Type 0 where
@@ -150,12 +167,24 @@ module _ (pages : PageMap) where
   -- from the page with the last entries on, each names the one with the entries before its own
   abbrev pub AreUndoPages : ℕ → List UndoPage → Type 0
   AreUndoPages number [] = number ≡ 0
-  AreUndoPages number (page ∷ before) = (page_as undo_page_of pages number ≡ Some page) × (page.number ≡ number) × AreUndoPages page.next before
+  AreUndoPages number (page ∷ before) =
+      (page_as undo_page_of pages number ≡ Some page) × (page.number ≡ number)
+      × AreUndoPages page.next before
 
-  -- the entries from the first one on are numbered from 1
+  -- a page was left only where the first entry of the page after it did not fit
+  abbrev pub IsFullBefore : UndoPage → UndoPage → Type 0
+  IsFullBefore after before =
+      IfSome (slice_get after.entries 0) (λ entry. page_room < undo_cost before.entries
+      + undo_entry_len entry)
+
+  -- each page has entries and was filled before the next one, and from the first one on entries are
+  -- numbered from 1
   pub record IsUndoFile (entry : OpenEntry) (file : List UndoPage) : Type 0 where
     pub linked : AreUndoPages entry.last_page file
-    pub numbered : map (λ e. e.number) (flat_map (λ page. page.entries) (reverse file)) ≡ range_with_len 1 entry.count
+    pub has_entries : AllByRecursion (λ page. 0 < length page.entries) file
+    pub packed : Neighbours IsFullBefore file
+    pub numbered : map (λ e. e.number) (flat_map (λ page. page.entries) (reverse file))
+        ≡ range_with_len 1 entry.count
 
   -- The whole map
 
@@ -168,10 +197,15 @@ module _ (pages : PageMap) where
     -- the pages of each table and of each open transaction
     pub table_pages : List (List ℕ)
     pub undo_files : List (List UndoPage)
-    pub tables : (table : ℕ) (entry : CatalogueEntry) (numbers : List ℕ) → slice_get catalogue.entries table ≡ Some entry → slice_get table_pages table ≡ Some numbers
+    pub tables : (table : ℕ) (entry : CatalogueEntry) (numbers : List ℕ)
+        → slice_get catalogue.entries table ≡ Some entry
+        → slice_get table_pages table ≡ Some numbers
         → IsTable (table + 1) entry numbers
     pub all_tables : length table_pages ≡ 500
     pub undo : AllZip IsUndoFile open_list.entries.items undo_files
+    -- no page is in two of them, or twice in one
+    pub apart : IsTrue (all_differ (λ a b. a == b)
+        (map (λ page. page.number) (flat_map (λ file. file) undo_files)))
     -- a page is there where one of these names it
     pub named : (number : ℕ) → IsSome (get pages number)
         ↔ ((number ≡ 0) ⊎ (number ≡ 1) ⊎ Contains (flat_map (λ numbers. numbers) table_pages) number

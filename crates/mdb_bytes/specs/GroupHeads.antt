@@ -1,6 +1,7 @@
 -- The head of a group: its first 33 bytes.
 --     head_fields, head_of      its fields; the head of a group
---     BeginsWithHead, FindsHead      bytes begin with a head; the head that they begin with, if there is one
+--     BeginsWithHead, FindsHead      bytes begin with a head; the head that they begin with, if
+--         there is one
 --     head_read      what stands at the places of a head
 --     IsDue      bytes are a group of this name and number
 use Rattle.std.specs.Prelude.{◌≡◌, ℕ, ◌≤◌, List, [], ◌∷◌, ◌++◌, length, drop, Option, Some, None, IsTrue}
@@ -13,14 +14,23 @@ use Rattle.mdb_bytes.specs.Groups.{Group, group_format, open_gate, longest_group
 
 abbrev pub head_fields : GroupHead → List Field
 head_fields head =
-    Byte open_gate ∷ Four head.length ∷ Eight head.name.birth ∷ Eight head.name.generation ∷ Eight head.number ∷ Four head.changes ∷ []
+    Byte open_gate ∷ Four head.length ∷ Eight head.name.birth ∷ Eight head.name.generation
+    ∷ Eight head.number ∷ Four head.changes ∷ []
 
 abbrev pub head_of : Group → GroupHead
-head_of v = record { length = group_bytes v.changes; name = v.name; number = v.number; changes = length v.changes }
+head_of v =
+    record {
+      length = group_bytes v.changes;
+      name = v.name;
+      number = v.number;
+      changes = length
+          v.changes;
+    }
 
 -- the bytes of a head, and then the rest
 abbrev pub BeginsWithHead : GroupHead → (bytes rest : List ℕ) → Type 0
-BeginsWithHead head bytes rest = IsTrue (fields_fit (head_fields head)) × (bytes ≡ spelled (head_fields head) ++ rest)
+BeginsWithHead head bytes rest =
+    IsTrue (fields_fit (head_fields head)) × (bytes ≡ spelled (head_fields head) ++ rest)
 
 -- what stands at its places
 abbrev pub head_read : List ℕ → GroupHead
@@ -38,8 +48,12 @@ FindsHead bytes None = (head : GroupHead) (rest : List ℕ) → BeginsWithHead h
 
 -- the head of a group of this name, number and length, which is not too long
 abbrev pub IsHeadFor : GroupHead → Name → (number len : ℕ) → Type 0
-IsHeadFor head name number len = (head.name ≡ name) × (head.number ≡ number) × (head.length ≡ len) × (head.length ≤ longest_group)
+IsHeadFor head name number len =
+    (head.name ≡ name) × (head.number ≡ number) × (head.length ≡ len)
+    × (head.length ≤ longest_group)
 
 -- the group of some changes
 abbrev pub IsDue : Name → ℕ → List ℕ → Type 0
-IsDue name number bytes = (changes : List Change) × Spells group_format (record { name = name; number = number; changes = changes }) bytes
+IsDue name number bytes =
+    (changes : List Change) × Spells group_format
+    (record { name = name; number = number; changes = changes }) bytes

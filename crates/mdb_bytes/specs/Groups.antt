@@ -21,7 +21,8 @@ pub record Group : Type 0 where
   pub changes : List Change
 
 abbrev pub change_fields : Change → List Field
-change_fields (Put table key value) = Two table.0 ∷ Byte 1 ∷ Two (length key) ∷ Two (length value) ∷ Text key ∷ Text value ∷ []
+change_fields (Put table key value) =
+    Two table.0 ∷ Byte 1 ∷ Two (length key) ∷ Two (length value) ∷ Text key ∷ Text value ∷ []
 change_fields (Del table key) = Two table.0 ∷ Byte 2 ∷ Two (length key) ∷ Two 0 ∷ Text key ∷ []
 
 abbrev pub change_fits : Change → Bool
@@ -33,11 +34,13 @@ change_reads bytes =
     let table : Table = record { 0 = number_at 2 0 bytes } in
     let key_len = number_at 2 3 bytes in
     let key = take key_len (drop 7 bytes) in
-    if number_at 1 2 bytes == 1 then Put table key (take (number_at 2 5 bytes) (drop (7 + key_len) bytes)) else Del table key
+    if number_at 1 2 bytes == 1 then Put table key
+    (take (number_at 2 5 bytes) (drop (7 + key_len) bytes)) else Del table key
 
 abbrev pub group_head : Group → List Field
 group_head v =
-    Byte open_gate ∷ Four (group_bytes v.changes) ∷ Eight v.name.birth ∷ Eight v.name.generation ∷ Eight v.number ∷ Four (length v.changes) ∷ []
+    Byte open_gate ∷ Four (group_bytes v.changes) ∷ Eight v.name.birth ∷ Eight v.name.generation
+    ∷ Eight v.number ∷ Four (length v.changes) ∷ []
 
 abbrev pub group_fields : Group → List Field
 group_fields v = group_head v ++ flat_map change_fields v.changes
@@ -48,7 +51,9 @@ longest_group = 1048576
 
 -- the changes ascend by table and key, and the group is not too long
 abbrev pub group_fits : Group → Bool
-group_fits v = (list_all change_fits v.changes && rises place_cmp (map place_of v.changes)) && nat_le (group_bytes v.changes) longest_group
+group_fits v =
+    (list_all change_fits v.changes && rises place_cmp (map place_of v.changes))
+    && nat_le (group_bytes v.changes) longest_group
 
 abbrev pub group_reads : List ℕ → Group
 group_reads bytes = record {

@@ -1,10 +1,12 @@
 -- What a keeper of rows, of undo files and of a log holds, and what its calls answer.
 --     Holding      the rows, the undo files, and what is left of a log
---     Before, UndoFiles      what stood at a place before a change; one list of these for each session
+--     Before, UndoFiles      what stood at a place before a change; one list of these for each
+--         session
 --     LogLeft      the commits of a log that are still to be read
 --     IsRow      whether a row is found, and its value
 --     next_row, IsNextRow      the first row of a table behind a key
---     setting_back, before_fits, before_of      a before image as the change that sets it back; the one of an entry
+--     setting_back, before_fits, before_of      a before image as the change that sets it back; the
+--         one of an entry
 --     noted, without_file, IsLastTaken      what is done to the undo file of a session
 --     IsNextGroup      the first group of a log
 --     HasPageCause      when a call on pages may fail
@@ -67,10 +69,12 @@ is_before a b = is_less (slice_cmp nat_cmp a b) where
   is_less Equal = false
   is_less Greater = false
 
--- the first row of a table whose key comes after this one, with its key. The empty key comes before all
+-- the first row of a table whose key comes after this one, with its key. The empty key comes before
+-- all
 abbrev pub next_row : Tables → (table : ℕ) → (after : List ℕ) → Option (List ℕ × List ℕ)
 next_row tables table after =
-    option_map (λ e. (e.0.1, e.1)) (find (λ e. (e.0.0 == table) && is_before after e.0.1) (entries tables))
+    option_map (λ e. (e.0.1, e.1)) (find (λ e. (e.0.0 == table)
+    && is_before after e.0.1) (entries tables))
 
 -- it is found, with this key and value, or there is none
 abbrev pub IsNextRow : (found : Bool) → Option (List ℕ × List ℕ) → (key value : List ℕ) → Type 0
@@ -92,7 +96,12 @@ before_fits before = change_fits (setting_back before)
 
 -- the before image that an entry has
 abbrev pub before_of : UndoEntry → Before
-before_of entry = record { place = (entry.table.0, entry.key.items); value = option_map (λ value. value.items) entry.before }
+before_of entry =
+    record {
+      place = (entry.table.0, entry.key.items);
+      value = option_map (λ value. value.items)
+          entry.before;
+    }
 
 abbrev pub file_of : UndoFiles → ℕ → List Before
 file_of files session = unwrap_or (get files session) []
@@ -108,7 +117,8 @@ without_file files session = remove files session
 -- the last before image of the session was taken, and the earlier ones are left; or there was none
 abbrev pub IsLastTaken : (taken : Bool) → (old new : UndoFiles) → (session : ℕ) → Before → Type 0
 IsLastTaken true old new session before =
-    (file_of old session ≡ file_of new session ++ before ∷ []) × ((other : ℕ) → (other == session) ≡ false → get new other ≡ get old other)
+    (file_of old session ≡ file_of new session ++ before ∷ [])
+    × ((other : ℕ) → (other == session) ≡ false → get new other ≡ get old other)
 IsLastTaken false old new session before = (file_of old session ≡ []) × (new ≡ old)
 
 -- The log
@@ -120,14 +130,20 @@ IsNextGroup true old new group =
     × (old.commits ≡ commit ∷ new.commits)
     × (new.name ≡ old.name)
     × (new.after ≡ old.after + 1)
-    × Spells group_format (record { name = old.name; number = old.after + 1; changes = commit.changes }) group
+    × Spells group_format (record {
+      name = old.name;
+      number = old.after
+          + 1;
+      changes = commit.changes;
+    }) group
 IsNextGroup false old new group = (old.commits ≡ []) × (new ≡ old)
 
 -- Faults
 
--- A device is called failed only where the count of faults rose. Where the bytes of the pages are known and keep the
--- rules, nothing is called damaged.
-pub record HasPageCause {T : Type 0} (known : Type 0) (before now : ℕ) (result : Result T PageFault) : Type 0 where
+-- A device is called failed only where the count of faults rose. Where the bytes of the pages are
+-- known and keep the rules, nothing is called damaged.
+pub record HasPageCause {T : Type 0} (known : Type 0) (before now : ℕ) (result : Result T PageFault)
+    : Type 0 where
   pub later : before ≤ now
   pub failed : IfErr result (λ fault. fault ≡ Failed → Rose before now)
   pub whole : known → IfErr result (λ fault. fault ≡ Failed)
@@ -136,8 +152,11 @@ pub record HasPageCause {T : Type 0} (known : Type 0) (before now : ℕ) (result
 abbrev pub no_room : Damage
 no_room = record { device = Data 1; page = 0; rule = Room }
 
--- As with other calls on pages, but that room may be wanting: only where a savepoint leaves fewer than 64 spare pages.
-pub record HasRoomCause {T : Type 0} (known : Type 0) (left : ℕ) (before now : ℕ) (result : Result T PageFault) : Type 0 where
+-- As with other calls on pages, but that room may be wanting: only where a savepoint leaves fewer
+-- than 64 spare pages.
+pub record HasRoomCause {T : Type 0} (known : Type 0) (left : ℕ) (before now : ℕ)
+    (result : Result T PageFault) : Type 0 where
   pub later : before ≤ now
   pub failed : IfErr result (λ fault. fault ≡ Failed → Rose before now)
-  pub whole : known → IfErr result (λ fault. (fault ≡ Failed) ⊎ ((fault ≡ Damaged no_room) × (left < 64)))
+  pub whole : known → IfErr result (λ fault. (fault ≡ Failed)
+      ⊎ ((fault ≡ Damaged no_room) × (left < 64)))

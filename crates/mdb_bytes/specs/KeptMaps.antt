@@ -34,13 +34,15 @@ leaf_of bytes = decoded converter_leaf_format bytes
 
 -- the leaf of this number
 abbrev pub leaf_with : ℕ → List ℕ → Option ConverterLeaf
-leaf_with number bytes = option_and_then (λ leaf. if leaf.leaf == number then Some leaf else None) (leaf_of bytes)
+leaf_with number bytes =
+    option_and_then (λ leaf. if leaf.leaf == number then Some leaf else None) (leaf_of bytes)
 
 -- the entries of the leaves in a row, of which the first has this number
 abbrev pub entries_from : ℕ → List (List ℕ) → Option (List ConverterEntry)
 entries_from number [] = Some []
 entries_from number (bytes ∷ more) =
-    option_and_then (λ leaf. option_map (λ entries. leaf.entries ++ entries) (entries_from (number + 1) more)) (leaf_with number bytes)
+    option_and_then (λ leaf. option_map (λ entries. leaf.entries
+    ++ entries) (entries_from (number + 1) more)) (leaf_with number bytes)
 
 -- those that have a block, with their page numbers
 abbrev pub placed : List ConverterEntry → List Placed
@@ -50,18 +52,26 @@ placed entries = filter (λ e. not (e.1.block == 0)) (enumerate_from 0 entries)
 module _ (block : ℕ → List ℕ) (blocks : ℕ) where
   -- the pages that stand at these places
   abbrev pub pages_at : List Placed → PageMap
-  pages_at places = from_sorted (map (λ e. (e.0, record { stamp = e.1.stamp; bytes = block e.1.block })) places)
+  pages_at places =
+      from_sorted (map (λ e. (e.0, record { stamp = e.1.stamp; bytes = block e.1.block })) places)
 
   -- the map of a root that stands on a block
   abbrev pub kept_under : ℕ → ConverterRoot → Option KeptMap
   kept_under root r =
       option_map
-      (λ entries. record { converter = root ∷ r.leaves.items; places = placed entries; pages = pages_at (placed entries) })
+      (λ entries. record {
+        converter = root
+            ∷ r.leaves.items;
+        places = placed entries;
+        pages = pages_at (placed entries);
+      })
       (entries_from 0 (map block r.leaves.items))
 
   -- a root has as many leaves as the area needs
   abbrev pub root_with_leaves : List ℕ → Option ConverterRoot
-  root_with_leaves bytes = option_and_then (λ r. if length r.leaves.items == leaf_count blocks then Some r else None) (root_of bytes)
+  root_with_leaves bytes =
+      option_and_then (λ r. if length r.leaves.items == leaf_count blocks then Some r
+      else None) (root_of bytes)
 
   -- the map under the root that stands on this block
   abbrev pub kept_map : ℕ → Option KeptMap

@@ -18,30 +18,33 @@ bytes_from ring position n = map ring (range_with_len position n)
 unfoldable pub group_of : List ℕ → Option Group
 group_of bytes = decoded group_format bytes
 
--- From a position on stand the groups of these commits, one behind the other with open gates, in this database and
--- with the numbers that follow on a number. Behind the last one the gate is closed.
+-- From a position on stand the groups of these commits, one behind the other with open gates, in
+-- this database and with the numbers that follow on a number. Behind the last one the gate is
+-- closed.
 abbrev pub IsLog : (ℕ → ℕ) → Name → (position after : ℕ) → List Commit → Type 0
 IsLog ring name position after [] = ring position ≢ open_gate
 IsLog ring name position after (commit ∷ commits) =
-    Spells group_format (record { name = name; number = after + 1; changes = commit.changes }) (bytes_from ring position (group_bytes commit.changes))
+    Spells group_format (record { name = name; number = after + 1; changes = commit.changes })
+    (bytes_from ring position (group_bytes commit.changes))
     × IsLog ring name (position + group_bytes commit.changes) (after + 1) commits
 
--- the group at a position, as long as it says behind its gate, where it is the one that is due: in this database, with
--- the number after this one
+-- the group at a position, as long as it says behind its gate, where it is the one that is due: in
+-- this database, with the number after this one
 abbrev pub group_due : (ℕ → ℕ) → Name → (position after : ℕ) → Option Group
 group_due ring name position after =
     option_and_then
     (λ group. if same_name group.name name && group.number == after + 1 then Some group else None)
     (group_of (bytes_from ring position (number_at 4 1 (bytes_from ring position 5))))
 
--- The same, computed: the commits of at most so many groups, or none where a group that is due does not stand behind
--- an open gate or there are more groups.
+-- The same, computed: the commits of at most so many groups, or none where a group that is due does
+-- not stand behind an open gate or there are more groups.
 abbrev pub log_from : (ℕ → ℕ) → Name → (most position after : ℕ) → Option (List Commit)
 log_from ring name zero position after = None
 log_from ring name (suc most) position after =
     if ring position == open_gate
     then option_and_then
-    (λ group. option_map (λ commits. record { changes = group.changes } ∷ commits) (log_from ring name most (position + group_bytes group.changes) (after + 1)))
+    (λ group. option_map (λ commits. record { changes = group.changes }
+    ∷ commits) (log_from ring name most (position + group_bytes group.changes) (after + 1)))
     (group_due ring name position after)
     else Some []
 

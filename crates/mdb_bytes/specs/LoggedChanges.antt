@@ -27,14 +27,18 @@ IsWithinLimits (ReadDel table key) = IsRow table key.now
 
 -- the bytes of a change that keeps its limits, and then the rest
 abbrev pub BeginsWith : Change → (bytes rest : List ℕ) → Type 0
-BeginsWith change bytes rest = IsTrue (change_fits change && fields_fit (change_fields change)) × (bytes ≡ spelled (change_fields change) ++ rest)
+BeginsWith change bytes rest =
+    IsTrue (change_fits change && fields_fit (change_fields change))
+    × (bytes ≡ spelled (change_fields change) ++ rest)
 
 -- the bytes of changes that keep their limits, one behind the other
 abbrev pub HasChanges : List ℕ → List Change → Type 0
 HasChanges bytes changes =
-    IsTrue (list_all change_fits changes && fields_fit (flat_map change_fields changes)) × (bytes ≡ spelled (flat_map change_fields changes))
+    IsTrue (list_all change_fits changes && fields_fit (flat_map change_fields changes))
+    × (bytes ≡ spelled (flat_map change_fields changes))
 
 -- the first of the changes, while the others are left; or none where there is none
 abbrev pub Gives : Option LoggedChange → (left : List ℕ) → List Change → Type 0
 Gives None left changes = changes ≡ []
-Gives (Some logged) left changes = (others : List Change) × (changes ≡ change_of logged ∷ others) × HasChanges left others
+Gives (Some logged) left changes =
+    (others : List Change) × (changes ≡ change_of logged ∷ others) × HasChanges left others

@@ -11,10 +11,12 @@ use Rattle.mdb_bytes.specs.declared.logical_pages.OpenList.{OpenList}
 use Rattle.mdb_bytes.specs.Fields.{Field, Byte, Two, Four, Eight, Zeros, Format, number_at, read_run}
 use Rattle.mdb_bytes.specs.Parts.{page_room, table_fields, ascend_from}
 
--- The kinds of logical pages. A row leaf is 1, an index page 2, an undo page 3, the catalogue 4, the open list 5.
+-- The kinds of logical pages. A row leaf is 1, an index page 2, an undo page 3, the catalogue 4,
+-- the open list 5.
 abbrev pub header_fields : (kind level table number count used next : ℕ) → List Field
 header_fields kind level table number count used next =
-    Byte kind ∷ Byte level ∷ Two table ∷ Four number ∷ Two count ∷ Two used ∷ Four next ∷ Zeros 48 ∷ []
+    Byte kind ∷ Byte level ∷ Two table ∷ Four number ∷ Two count ∷ Two used ∷ Four next ∷ Zeros 48
+    ∷ []
 
 -- the number of the page
 abbrev pub own_number : List ℕ → ℕ
@@ -40,15 +42,23 @@ catalogue_entry_fits v = true
 
 -- what stands at the places of the entry of a table
 abbrev pub catalogue_entry_reads : List ℕ → CatalogueEntry
-catalogue_entry_reads bytes = record { root = number_at 4 0 bytes; pages = number_at 4 4 bytes; cost = number_at 8 8 bytes }
+catalogue_entry_reads bytes =
+    record { root = number_at 4 0 bytes; pages = number_at 4 4 bytes; cost = number_at 8 8 bytes }
 
 -- the format of the entry of a table
 abbrev pub catalogue_entry_format : Format CatalogueEntry
-catalogue_entry_format = record { fits = catalogue_entry_fits; fields = catalogue_entry_fields; reads = catalogue_entry_reads }
+catalogue_entry_format =
+    record {
+      fits = catalogue_entry_fits;
+      fields = catalogue_entry_fields;
+      reads =
+          catalogue_entry_reads;
+    }
 
 -- the fields of the catalogue, in order
 abbrev pub catalogue_fields : Catalogue → List Field
-catalogue_fields v = header_fields 4 0 0 0 500 8000 0 ++ table_fields catalogue_entry_fields 16 page_room v.entries
+catalogue_fields v =
+    header_fields 4 0 0 0 500 8000 0 ++ table_fields catalogue_entry_fields 16 page_room v.entries
 
 -- the limits of the catalogue beside the room of its fields
 abbrev pub catalogue_fits : Catalogue → Bool
@@ -56,11 +66,13 @@ catalogue_fits v = length v.entries == 500
 
 -- what stands at the places of the catalogue
 abbrev pub catalogue_reads : List ℕ → Catalogue
-catalogue_reads bytes = record { entries = read_run catalogue_entry_reads (λ e. 16) 500 (drop 64 bytes) }
+catalogue_reads bytes =
+    record { entries = read_run catalogue_entry_reads (λ e. 16) 500 (drop 64 bytes) }
 
 -- the format of the catalogue
 abbrev pub catalogue_format : Format Catalogue
-catalogue_format = record { fits = catalogue_fits; fields = catalogue_fields; reads = catalogue_reads }
+catalogue_format =
+    record { fits = catalogue_fits; fields = catalogue_fields; reads = catalogue_reads }
 
 -- The open list, which is page 1
 
@@ -74,11 +86,18 @@ open_entry_fits v = nat_le 1 v.session && nat_le v.session 64 && nat_le 1 v.coun
 
 -- what stands at the places of the entry of a session
 abbrev pub open_entry_reads : List ℕ → OpenEntry
-open_entry_reads bytes = record { session = number_at 1 0 bytes; last_page = number_at 4 4 bytes; count = number_at 4 8 bytes }
+open_entry_reads bytes =
+    record {
+      session = number_at 1 0 bytes;
+      last_page = number_at 4 4 bytes;
+      count = number_at 4 8
+          bytes;
+    }
 
 -- the format of the entry of a session
 abbrev pub open_entry_format : Format OpenEntry
-open_entry_format = record { fits = open_entry_fits; fields = open_entry_fields; reads = open_entry_reads }
+open_entry_format =
+    record { fits = open_entry_fits; fields = open_entry_fields; reads = open_entry_reads }
 
 -- the fields of the open list in front of its rows
 abbrev pub open_list_front : OpenList → List Field
@@ -86,17 +105,26 @@ open_list_front v = header_fields 5 0 0 1 (length v.entries.items) (12 * length 
 
 -- the fields of the open list, in order
 abbrev pub open_list_fields : OpenList → List Field
-open_list_fields v = open_list_front v ++ table_fields open_entry_fields 12 page_room v.entries.items
+open_list_fields v =
+    open_list_front v ++ table_fields open_entry_fields 12 page_room v.entries.items
 
 -- up to 64 sessions, by ascending number
 abbrev pub open_list_fits : OpenList → Bool
 open_list_fits v =
-    nat_le (length v.entries.items) 64 && list_all open_entry_fits v.entries.items && ascend_from 0 (map (λ e. e.session) v.entries.items)
+    nat_le (length v.entries.items) 64 && list_all open_entry_fits v.entries.items
+    && ascend_from 0 (map (λ e. e.session) v.entries.items)
 
 -- what stands at the places of the open list
 abbrev pub open_list_reads : List ℕ → OpenList
-open_list_reads bytes = record { entries = record { items = read_run open_entry_reads (λ e. 12) (min (number_at 2 8 bytes) 64) (drop 64 bytes) } }
+open_list_reads bytes =
+    record {
+      entries = record {
+        items = read_run open_entry_reads (λ e. 12)
+            (min (number_at 2 8 bytes) 64) (drop 64 bytes);
+      };
+    }
 
 -- the format of the open list
 abbrev pub open_list_format : Format OpenList
-open_list_format = record { fits = open_list_fits; fields = open_list_fields; reads = open_list_reads }
+open_list_format =
+    record { fits = open_list_fits; fields = open_list_fields; reads = open_list_reads }

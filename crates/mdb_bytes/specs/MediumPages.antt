@@ -23,13 +23,16 @@ kind_number OfLog = 3
 
 -- the kind of a number
 abbrev pub kind_of : ℕ → BackupKind
-kind_of number = if number == 1 then OfPages Complete else (if number == 2 then OfPages Incremental else OfLog)
+kind_of number =
+    if number == 1 then OfPages Complete else (if number == 2 then OfPages Incremental else OfLog)
 
 -- the fields of the header of a medium, in order
 abbrev pub medium_header_fields : MediumHeader → List Field
 medium_header_fields v =
-    Text (codes "MDBKMEDI") ∷ Four v.format ∷ Four (kind_number v.kind) ∷ Eight v.name.birth ∷ Eight v.name.generation ∷ Eight v.savepoint ∷ Eight v.base
-    ∷ Eight v.first ∷ Eight v.last ∷ Four v.blocks ∷ Four v.pages ∷ Eight v.group_bytes ∷ Eight v.end_position ∷ Zeros 8103 ∷ []
+    Text (codes "MDBKMEDI") ∷ Four v.format ∷ Four (kind_number v.kind) ∷ Eight v.name.birth
+    ∷ Eight v.name.generation ∷ Eight v.savepoint ∷ Eight v.base
+    ∷ Eight v.first ∷ Eight v.last ∷ Four v.blocks ∷ Four v.pages ∷ Eight v.group_bytes
+    ∷ Eight v.end_position ∷ Zeros 8103 ∷ []
 
 -- the most pages of a backup
 abbrev pub most_pages : ℕ
@@ -37,8 +40,10 @@ most_pages = 131072
 
 -- the numbers that a kind does not have are 0, and a backup of pages has one commit number
 abbrev pub header_kind_fits : BackupKind → MediumHeader → Bool
-header_kind_fits (OfPages Complete) v = v.base == 0 && v.first == v.last && v.group_bytes == 0 && v.end_position == 0
-header_kind_fits (OfPages Incremental) v = v.first == v.last && v.group_bytes == 0 && v.end_position == 0
+header_kind_fits (OfPages Complete) v =
+    v.base == 0 && v.first == v.last && v.group_bytes == 0 && v.end_position == 0
+header_kind_fits (OfPages Incremental) v =
+    v.first == v.last && v.group_bytes == 0 && v.end_position == 0
 header_kind_fits OfLog v = v.savepoint == 0 && v.base == 0
 
 -- the limits of the header of a medium beside the room of its fields
@@ -63,7 +68,8 @@ medium_header_reads bytes = record {
 
 -- the format of the header of a medium
 abbrev pub medium_header_format : Format MediumHeader
-medium_header_format = record { fits = medium_header_fits; fields = medium_header_fields; reads = medium_header_reads }
+medium_header_format =
+    record { fits = medium_header_fits; fields = medium_header_fields; reads = medium_header_reads }
 
 -- The live set: a bit for each page number, the highest bit of a byte first
 
@@ -81,7 +87,13 @@ live_set_fits v = length v.bits == 8125
 
 -- what stands at the places of a page of a live set
 abbrev pub live_set_reads : List ℕ → LiveSet
-live_set_reads bytes = record { index = number_at 4 8 bytes; blocks = number_at 4 12 bytes; bits = take 8125 (drop 64 bytes) }
+live_set_reads bytes =
+    record {
+      index = number_at 4 8 bytes;
+      blocks = number_at 4 12 bytes;
+      bits = take 8125
+          (drop 64 bytes);
+    }
 
 -- the format of a page of a live set
 abbrev pub live_set_format : Format LiveSet
@@ -103,7 +115,8 @@ device_number (Medium medium) = medium
 
 -- the device of both numbers
 abbrev pub device_of : (kind number : ℕ) → Device
-device_of kind number = if kind == 1 then Data number else (if kind == 2 then Log else Medium number)
+device_of kind number =
+    if kind == 1 then Data number else (if kind == 2 then Log else Medium number)
 
 -- the numbers that devices have
 abbrev pub device_fits : Device → Bool
@@ -130,13 +143,18 @@ rule_number Room = 13
 -- the rule of a number, which is 1 to 13
 abbrev pub rule_of : ℕ → Rule
 rule_of number =
-    if number == 1 then Missing else (if number == 2 then Size else (if number == 3 then NoSlot else (if number == 4 then ConverterRoot else (
-    if number == 5 then ConverterLeaf else (if number == 6 then PageRule else (if number == 7 then Block else (if number == 8 then Tree else (
-    if number == 9 then Undo else (if number == 10 then GroupRule else (if number == 11 then Header else (if number == 12 then Content else Room)))))))))))
+    if number == 1 then Missing else (if number == 2 then Size
+    else (if number == 3 then NoSlot else (if number == 4 then ConverterRoot else (
+    if number == 5 then ConverterLeaf else (if number == 6 then PageRule
+    else (if number == 7 then Block else (if number == 8 then Tree else (
+    if number == 9 then Undo else (if number == 10 then GroupRule
+    else (if number == 11 then Header else (if number == 12 then Content else Room)))))))))))
 
 -- the fields of a report, in order
 abbrev pub check_report_fields : Damage → List Field
-check_report_fields v = Byte (device_kind v.device) ∷ Byte (device_number v.device) ∷ Two (rule_number v.rule) ∷ Four v.page ∷ Zeros 8 ∷ []
+check_report_fields v =
+    Byte (device_kind v.device) ∷ Byte (device_number v.device) ∷ Two (rule_number v.rule)
+    ∷ Four v.page ∷ Zeros 8 ∷ []
 
 -- the limits of a report beside the room of its fields
 abbrev pub check_report_fits : Damage → Bool
@@ -152,4 +170,5 @@ check_report_reads bytes = record {
 
 -- the format of a report
 abbrev pub check_report_format : Format Damage
-check_report_format = record { fits = check_report_fits; fields = check_report_fields; reads = check_report_reads }
+check_report_format =
+    record { fits = check_report_fits; fields = check_report_fields; reads = check_report_reads }

@@ -3,7 +3,8 @@
 --     IsRowEntry, IsChildEntry, IsUndoEntry      places are those of an entry
 --     undo_entry_at      the places of an undo entry that begins at a place, by its front
 --     FindsEntry      the entry with a number, counted from 0, or none where there is none
---     HasUndo, SkipsUndo      bytes are undo entries and more fields; the bytes behind the first entries
+--     HasUndo, SkipsUndo      bytes are undo entries and more fields; the bytes behind the first
+--         entries
 use Rattle.std.specs.Prelude.{◌≡◌, ℕ, ◌+◌, ◌-◌, ◌<◌, ◌≤◌, List, ◌++◌, length, take, drop, slice_get, true, Option, Some, None}
 use Rattle.std.specs.List.{flat_map}
 use Rattle.std.specs.Borrow.{Bor}
@@ -55,7 +56,9 @@ pub record HasUndo (bytes : List ℕ) (entries : List UndoEntry) (more : List Fi
 
 -- what stands behind n undo entries, or none where there are fewer
 abbrev pub SkipsUndo : List ℕ → ℕ → Option (Bor (List ℕ)) → Type 0
-SkipsUndo bytes n None = (entries : List UndoEntry) (more : List Field) → HasUndo bytes entries more → length entries < n
+SkipsUndo bytes n None =
+    (entries : List UndoEntry) (more : List Field) → HasUndo bytes entries more → length entries < n
 SkipsUndo bytes n (Some rest) =
     (length rest.now ≤ length bytes) × (drop (length bytes - length rest.now) bytes ≡ rest.now)
-    × ((entries : List UndoEntry) (more : List Field) → n ≤ length entries → HasUndo bytes entries more → HasUndo rest.now (drop n entries) more)
+    × ((entries : List UndoEntry) (more : List Field) → n ≤ length entries
+    → HasUndo bytes entries more → HasUndo rest.now (drop n entries) more)

@@ -1,5 +1,6 @@
 -- What the logical pages of a map say: rows as they stand, and rows as they were.
---     row_leaf_of, index_of, undo_page_of, catalogue_of, open_list_of      the page that bytes spell
+--     row_leaf_of, index_of, undo_page_of, catalogue_of, open_list_of      the page that bytes
+--         spell
 --     page_as      the page of a number, read so
 --     standing_rows, rows_before, undo_page_count      of a whole map
 use Rattle.std.specs.Prelude.{ℕ, List, [], if◌then◌else◌, map, Option, Some, None, is_some, unwrap_or, option_map, option_and_then, count_by}
@@ -57,7 +58,9 @@ all_rows pages = flat_map (λ page. rows_on page.bytes) (values pages)
 
 -- the entries on a page, which are none where it is no undo page
 abbrev pub images_on : List ℕ → List (Place × Option (List ℕ))
-images_on bytes = unwrap_or (option_map (λ page. map (λ e. ((e.table, e.key), e.before)) page.entries) (undo_page_of bytes)) []
+images_on bytes =
+    unwrap_or (option_map (λ page. map (λ e. ((e.table, e.key), e.before)) page.entries)
+    (undo_page_of bytes)) []
 
 -- the entries on the undo pages of a map
 abbrev pub all_images : PageMap → List (Place × Option (List ℕ))
@@ -65,13 +68,15 @@ all_images pages = flat_map (λ page. images_on page.bytes) (values pages)
 
 -- the map of these entries, or none where a place stands twice
 abbrev pub once : {X : Type 0} → List (Place × X) → Option (FinMap place_cmp X)
-once entries = if all_differ same_place (map (λ e. e.0) entries) then Some (from_entries entries) else None
+once entries =
+    if all_differ same_place (map (λ e. e.0) entries) then Some (from_entries entries) else None
 
 -- the rows as they stand, or none where a key stands twice
 abbrev pub standing_rows : PageMap → Option Tables
 standing_rows pages = once (all_rows pages)
 
--- the row before, or none, of each key that an open transaction changed; none where a key stands twice
+-- the row before, or none, of each key that an open transaction changed; none where a key stands
+-- twice
 abbrev pub rows_before : PageMap → Option (FinMap place_cmp (Option (List ℕ)))
 rows_before pages = once (all_images pages)
 

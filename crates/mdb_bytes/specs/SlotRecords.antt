@@ -19,8 +19,10 @@ slot_len = 8191
 -- the fields of a log info, in order
 abbrev pub log_info_fields : LogInfo → List Field
 log_info_fields v =
-    Text (codes "MDBKLOGI") ∷ Four v.format ∷ Zeros 4 ∷ Eight v.slot ∷ Eight v.name.birth ∷ Eight v.name.generation ∷ Eight v.saved_commit
-    ∷ Eight v.saved_position ∷ Four v.pending_medium ∷ Four v.pages ∷ Eight v.pending_commit ∷ Eight v.pending_position ∷ Zeros (slot_len - 80) ∷ []
+    Text (codes "MDBKLOGI") ∷ Four v.format ∷ Zeros 4 ∷ Eight v.slot ∷ Eight v.name.birth
+    ∷ Eight v.name.generation ∷ Eight v.saved_commit
+    ∷ Eight v.saved_position ∷ Four v.pending_medium ∷ Four v.pages ∷ Eight v.pending_commit
+    ∷ Eight v.pending_position ∷ Zeros (slot_len - 80) ∷ []
 
 -- the limits of a log info beside the room of its fields
 abbrev pub log_info_fits : LogInfo → Bool
@@ -48,7 +50,8 @@ log_info_format = record { fits = log_info_fits; fields = log_info_fields; reads
 
 -- the fields of a snapshot entry, in order
 abbrev pub snapshot_fields : SnapshotEntry → List Field
-snapshot_fields v = Four v.number ∷ Four v.root ∷ Eight v.commit ∷ Four v.size ∷ Zeros 4 ∷ Eight v.savepoint ∷ []
+snapshot_fields v =
+    Four v.number ∷ Four v.root ∷ Eight v.commit ∷ Four v.size ∷ Zeros 4 ∷ Eight v.savepoint ∷ []
 
 -- the limits of a snapshot entry beside the room of its fields
 abbrev pub snapshot_fits : SnapshotEntry → Bool
@@ -82,12 +85,15 @@ state_of number = if number == 0 then Normal else RestoreOpen
 -- the first 72 bytes, up to the number of volumes
 abbrev pub restart_front : RestartRecord → List Field
 restart_front v =
-    Text (codes "MDBKREST") ∷ Four v.format ∷ Four (state_number v.state) ∷ Eight v.slot ∷ Eight v.name.birth ∷ Eight v.name.generation ∷ Eight v.savepoint
+    Text (codes "MDBKREST") ∷ Four v.format ∷ Four (state_number v.state) ∷ Eight v.slot
+    ∷ Eight v.name.birth ∷ Eight v.name.generation ∷ Eight v.savepoint
     ∷ Eight v.commit ∷ Eight v.position ∷ Four v.root ∷ Four (length v.volumes.items) ∷ []
 
 -- the 24 bytes between the volumes and the snapshots
 abbrev pub restart_middle : RestartRecord → List Field
-restart_middle v = Eight v.base ∷ Four v.pending_medium ∷ Four (length v.snapshots.items) ∷ Eight v.pending_savepoint ∷ []
+restart_middle v =
+    Eight v.base ∷ Four v.pending_medium ∷ Four (length v.snapshots.items)
+    ∷ Eight v.pending_savepoint ∷ []
 
 -- the fields of a restart record, in order
 abbrev pub restart_fields : RestartRecord → List Field
@@ -98,13 +104,16 @@ restart_fields v =
 -- there is no root only while a restore is open
 abbrev pub restart_numbers_fit : RestartRecord → Bool
 restart_numbers_fit v =
-    v.format == 1 && nat_le 1 v.name.birth && nat_le 1 v.name.generation && (nat_lt 0 v.root || state_number v.state == 1) && nat_le v.pending_medium 99
+    v.format == 1 && nat_le 1 v.name.birth && nat_le 1 v.name.generation
+    && (nat_lt 0 v.root || state_number v.state == 1) && nat_le v.pending_medium 99
 
 -- 1 to 8 volumes, and up to 8 snapshots by ascending number
 abbrev pub restart_tables_fit : RestartRecord → Bool
 restart_tables_fit v =
-    nat_le 1 (length v.volumes.items) && nat_le (length v.volumes.items) 8 && nat_le (length v.snapshots.items) 8
-    && list_all snapshot_fits v.snapshots.items && ascend_from 0 (map (λ e. e.number) v.snapshots.items)
+    nat_le 1 (length v.volumes.items) && nat_le (length v.volumes.items) 8
+    && nat_le (length v.snapshots.items) 8
+    && list_all snapshot_fits v.snapshots.items
+    && ascend_from 0 (map (λ e. e.number) v.snapshots.items)
 
 -- the limits of a restart record beside the room of its fields
 abbrev pub restart_fits : RestartRecord → Bool
@@ -121,11 +130,19 @@ restart_reads bytes = record {
   commit = number_at 8 48 bytes;
   position = number_at 8 56 bytes;
   root = number_at 4 64 bytes;
-  volumes = record { items = read_run word_format.reads (λ n. 4) (min (number_at 4 68 bytes) 8) (drop 72 bytes) };
+  volumes =
+      record {
+        items = read_run word_format.reads (λ n. 4) (min (number_at 4 68 bytes) 8)
+            (drop 72 bytes);
+      };
   base = number_at 8 104 bytes;
   pending_medium = number_at 4 112 bytes;
   pending_savepoint = number_at 8 120 bytes;
-  snapshots = record { items = read_run snapshot_reads (λ e. 32) (min (number_at 4 116 bytes) 8) (drop 128 bytes) };
+  snapshots =
+      record {
+        items = read_run snapshot_reads (λ e. 32) (min (number_at 4 116 bytes) 8)
+            (drop 128 bytes);
+      };
 }
 
 -- the format of a restart record

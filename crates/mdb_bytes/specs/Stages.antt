@@ -1,17 +1,19 @@
--- How far the program is built, as far as it bears on what images mean. Until a part is built an image stands for a world
--- only where that part is not needed. Each stage changes this file alone.
---     first_records, no_backups, one_generation, no_snapshots, no_undo, no_changed_pages      what is not there yet
+-- How far the program is built, as far as it bears on what images mean. Until a part is built an
+-- image stands for a world only where that part is not needed. Each stage changes this file alone.
+--     first_records, no_backups, one_generation, no_snapshots, no_undo, no_changed_pages      what
+--         is not there yet
 --     tables_are_trees, asks_for_room      what is there
 use Rattle.std.specs.Prelude.{Bool, true, false, not}
-use Rattle.mdb_model.specs.Stages.{rows_in_memory}
+use Rattle.mdb_model.specs.Stages.{rows_in_memory, changes_in_memory, has_media, has_tasks}
 
--- the restart record and the log info are still those of the creation; false in the whole program, as are the next five
+-- the restart record and the log info are still those of the creation; false in the whole program,
+-- as are the next five
 abbrev pub first_records : Bool
 first_records = true
 
 -- there are no backups: no medium, nothing saved, no base, nothing pending
 abbrev pub no_backups : Bool
-no_backups = true
+no_backups = not has_media
 
 -- there is neither revert nor recover: the area is live, and the generation is the first
 abbrev pub one_generation : Bool
@@ -23,11 +25,11 @@ no_snapshots = true
 
 -- open changes stand in memory alone: there are no undo entries on pages
 abbrev pub no_undo : Bool
-no_undo = true
+no_undo = changes_in_memory
 
 -- no backup holds changed pages alone
 abbrev pub no_changed_pages : Bool
-no_changed_pages = true
+no_changed_pages = not has_tasks
 
 -- tables are trees, as in the whole program; before that they are lists of leaves
 abbrev pub tables_are_trees : Bool

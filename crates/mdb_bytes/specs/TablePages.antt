@@ -2,8 +2,8 @@
 --     slot_fields, entry_area      the slots of entries; all that stands behind the header
 --     RowLeaf, row_leaf_format      rows by ascending key
 --     IndexPage, index_format      children by ascending separator
--- Behind the header the entries stand without a gap. At the end of the page stand the slots: the place of each entry,
--- that of the first one last. Between the two are zeros.
+-- Behind the header the entries stand without a gap. At the end of the page stand the slots: the
+-- place of each entry, that of the first one last. Between the two are zeros.
 use Rattle.std.specs.Prelude.{ℕ, ◌+◌, ◌-◌, List, [], ◌∷◌, ◌++◌, Bool, ◌&&◌, nat_le, length, map, drop, take, sum_by}
 use Rattle.std.specs.List.{flat_map, list_all}
 use Rattle.std.specs.Ordering.{nat_cmp}
@@ -20,7 +20,8 @@ slot_fields at (len ∷ lens) = slot_fields (at + len) lens ++ (Two at ∷ [])
 
 -- the entries, zeros, and the slots; the cost of an entry is its length with its slot
 abbrev pub entry_area : {X : Type 0} → (X → List Field) → (len cost : X → ℕ) → List X → List Field
-entry_area fields len cost xs = flat_map fields xs ++ (Zeros (page_room - sum_by cost xs) ∷ slot_fields 64 (map len xs))
+entry_area fields len cost xs =
+    flat_map fields xs ++ (Zeros (page_room - sum_by cost xs) ∷ slot_fields 64 (map len xs))
 
 -- the longest value of a row
 abbrev pub longest_value : ℕ
@@ -73,7 +74,8 @@ row_format longest = record { fits = row_fits longest; fields = row_fields; read
 -- the fields of a row leaf, in order
 abbrev pub row_leaf_fields : RowLeaf → List Field
 row_leaf_fields v =
-    header_fields 1 0 v.table v.number (length v.rows) (rows_cost v.rows) v.next ++ entry_area row_fields row_len row_cost v.rows
+    header_fields 1 0 v.table v.number (length v.rows) (rows_cost v.rows) v.next
+    ++ entry_area row_fields row_len row_cost v.rows
 
 -- with values of at most so many bytes
 abbrev pub row_leaf_fits : (longest : ℕ) → RowLeaf → Bool
@@ -92,7 +94,8 @@ row_leaf_reads bytes = record {
 
 -- the format of a row leaf
 abbrev pub row_leaf_format : (longest : ℕ) → Format RowLeaf
-row_leaf_format longest = record { fits = row_leaf_fits longest; fields = row_leaf_fields; reads = row_leaf_reads }
+row_leaf_format longest =
+    record { fits = row_leaf_fits longest; fields = row_leaf_fields; reads = row_leaf_reads }
 
 -- Index pages
 
@@ -138,13 +141,16 @@ child_format = record { fits = child_fits; fields = child_fields; reads = child_
 -- the fields of an index page, in order
 abbrev pub index_fields : IndexPage → List Field
 index_fields v =
-    header_fields 2 v.level v.table v.number (length v.children) (children_cost v.children) 0 ++ entry_area child_fields child_len child_cost v.children
+    header_fields 2 v.level v.table v.number (length v.children) (children_cost v.children) 0
+    ++ entry_area child_fields child_len child_cost v.children
 
 -- the limits of an index page beside the room of its fields
 abbrev pub index_fits : IndexPage → Bool
 index_fits v =
-    ((nat_le 1 v.level && nat_le v.level 7) && (is_table v.table && nat_le (children_cost v.children) page_room))
-    && (list_all child_fits v.children && rises (slice_cmp nat_cmp) (map (λ child. child.0) v.children))
+    ((nat_le 1 v.level && nat_le v.level 7)
+    && (is_table v.table && nat_le (children_cost v.children) page_room))
+    && (list_all child_fits v.children && rises (slice_cmp nat_cmp)
+    (map (λ child. child.0) v.children))
 
 -- what stands at the places of an index page
 abbrev pub index_reads : List ℕ → IndexPage

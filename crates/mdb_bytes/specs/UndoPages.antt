@@ -1,5 +1,6 @@
 -- Undo pages: the rows as they were before open transactions changed them.
---     UndoPage, undo_page_format      the entries of a page in order, without a gap behind its header, and then zeros
+--     UndoPage, undo_page_format      the entries of a page in order, without a gap behind its
+--         header, and then zeros
 use Rattle.std.specs.Prelude.{ℕ, ◌+◌, ◌-◌, List, [], ◌∷◌, ◌++◌, Bool, ◌&&◌, ◌==◌, nat_le, Option, Some, None, is_some, unwrap_or, if◌then◌else◌, length, drop, take, sum_by}
 use Rattle.std.specs.List.{flat_map, list_all}
 use Rattle.mdb_model.specs.Script.{is_table, is_key}
@@ -40,13 +41,15 @@ undo_cost entries = sum_by undo_entry_len entries
 -- the fields of an entry, in order
 abbrev pub undo_entry_fields : UndoEntry → List Field
 undo_entry_fields v =
-    Two v.table ∷ Byte (before_kind v) ∷ Byte 0 ∷ Two (length v.key) ∷ Two (length (before_bytes v)) ∷ Eight v.number
+    Two v.table ∷ Byte (before_kind v) ∷ Byte 0 ∷ Two (length v.key) ∷ Two (length (before_bytes v))
+    ∷ Eight v.number
     ∷ Text v.key ∷ Text (before_bytes v) ∷ []
 
 -- with a value of at most so many bytes
 abbrev pub undo_entry_fits : (longest : ℕ) → UndoEntry → Bool
 undo_entry_fits longest v =
-    (is_table v.table && is_key v.key) && (nat_le (length (before_bytes v)) longest && nat_le 1 v.number)
+    (is_table v.table && is_key v.key) && (nat_le (length (before_bytes v)) longest
+    && nat_le 1 v.number)
 
 -- what stands at the places of an entry
 abbrev pub undo_entry_reads : List ℕ → UndoEntry
@@ -55,13 +58,16 @@ undo_entry_reads bytes =
     record {
       table = number_at 2 0 bytes;
       key = take key_len (drop 16 bytes);
-      before = if number_at 1 2 bytes == 0 then None else Some (take (number_at 2 6 bytes) (drop (16 + key_len) bytes));
+      before =
+          if number_at 1 2 bytes == 0 then None
+          else Some (take (number_at 2 6 bytes) (drop (16 + key_len) bytes));
       number = number_at 8 8 bytes;
     }
 
 -- the format of an entry
 abbrev pub undo_entry_format : (longest : ℕ) → Format UndoEntry
-undo_entry_format longest = record { fits = undo_entry_fits longest; fields = undo_entry_fields; reads = undo_entry_reads }
+undo_entry_format longest =
+    record { fits = undo_entry_fits longest; fields = undo_entry_fields; reads = undo_entry_reads }
 
 -- the fields of an undo page, in order
 abbrev pub undo_page_fields : UndoPage → List Field
@@ -71,7 +77,8 @@ undo_page_fields v =
 
 -- with values of at most so many bytes
 abbrev pub undo_page_fits : (longest : ℕ) → UndoPage → Bool
-undo_page_fits longest v = nat_le (undo_cost v.entries) page_room && list_all (undo_entry_fits longest) v.entries
+undo_page_fits longest v =
+    nat_le (undo_cost v.entries) page_room && list_all (undo_entry_fits longest) v.entries
 
 -- what stands at the places of an undo page
 abbrev pub undo_page_reads : List ℕ → UndoPage
@@ -83,4 +90,5 @@ undo_page_reads bytes = record {
 
 -- the format of an undo page
 abbrev pub undo_page_format : (longest : ℕ) → Format UndoPage
-undo_page_format longest = record { fits = undo_page_fits longest; fields = undo_page_fields; reads = undo_page_reads }
+undo_page_format longest =
+    record { fits = undo_page_fits longest; fields = undo_page_fields; reads = undo_page_reads }

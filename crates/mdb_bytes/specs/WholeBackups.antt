@@ -26,12 +26,18 @@ use Rattle.mdb_bytes.specs.MediumPages.{medium_header_fields, live_set_fields}
 
 -- the byte with the bits of the eight numbers from one on
 abbrev pub live_byte : FinSet nat_cmp → ℕ → ℕ
-live_byte live from = sum_by (λ i. if contains live (from + i) then 2 ^ (7 - i) else 0) (range_with_len 0 8)
+live_byte live from =
+    sum_by (λ i. if contains live (from + i) then 2 ^ (7 - i) else 0) (range_with_len 0 8)
 
 -- the page of a live set that tells of 65,000 numbers
 abbrev pub live_page : FinSet nat_cmp → (blocks index : ℕ) → LiveSet
 live_page live blocks index =
-    record { index = index; blocks = blocks; bits = map (λ k. live_byte live (65000 * index + 8 * k)) (range_with_len 0 8125) }
+    record {
+      index = index;
+      blocks = blocks;
+      bits = map
+          (λ k. live_byte live (65000 * index + 8 * k)) (range_with_len 0 8125);
+    }
 
 -- how many pages a live set has
 abbrev pub live_pages : (blocks : ℕ) → ℕ
@@ -39,7 +45,9 @@ live_pages blocks = ceil_div blocks 65000
 
 -- the bytes of a live set
 abbrev pub live_set_spelled : FinSet nat_cmp → (blocks : ℕ) → List ℕ
-live_set_spelled live blocks = concat (map (λ index. spelled (live_set_fields (live_page live blocks index))) (range_with_len 0 (live_pages blocks)))
+live_set_spelled live blocks =
+    concat (map (λ index. spelled (live_set_fields (live_page live blocks index)))
+    (range_with_len 0 (live_pages blocks)))
 
 -- What stands behind the header
 
@@ -47,7 +55,8 @@ live_set_spelled live blocks = concat (map (λ index. spelled (live_set_fields (
 abbrev pub groups_spelled : Name → ℕ → List Commit → List ℕ
 groups_spelled name number [] = []
 groups_spelled name number (commit ∷ commits) =
-    spelled (group_fields (record { name = name; number = number; changes = commit.changes })) ++ groups_spelled name (number + 1) commits
+    spelled (group_fields (record { name = name; number = number; changes = commit.changes }))
+    ++ groups_spelled name (number + 1) commits
 
 -- how many pages the groups of commits fill
 abbrev pub group_pages : List Commit → ℕ
@@ -57,12 +66,15 @@ group_pages commits = ceil_div (log_bytes commits) page_len
 abbrev pub pages_spelled : PageMap → List ℕ
 pages_spelled pages = concat (map (λ page. page.bytes) (values pages))
 
--- The pages behind the header: all pages; the live set and the changed pages; the groups, the last page filled with zeros
+-- The pages behind the header: all pages; the live set and the changed pages; the groups, the last
+-- page filled with zeros
 abbrev pub content_bytes : Backup → List ℕ
 content_bytes (CompletePages name savepoint commit pages blocks) = pages_spelled pages
-content_bytes (ChangedPages name savepoint base commit changed live blocks) = live_set_spelled live blocks ++ pages_spelled changed
+content_bytes (ChangedPages name savepoint base commit changed live blocks) =
+    live_set_spelled live blocks ++ pages_spelled changed
 content_bytes (LogGroups name from to commits blocks) =
-    groups_spelled name from commits ++ replicate (page_len * group_pages commits - log_bytes commits) 0
+    groups_spelled name from commits ++ replicate
+    (page_len * group_pages commits - log_bytes commits) 0
 
 -- The header
 
@@ -110,4 +122,6 @@ header_for end (LogGroups name from to commits blocks) = record {
 
 -- the header with an open gate, and what stands behind it
 abbrev pub backup_bytes : (end : ℕ) → Backup → List ℕ
-backup_bytes end backup = spelled (medium_header_fields (header_for end backup) ++ Byte open_gate ∷ []) ++ content_bytes backup
+backup_bytes end backup =
+    spelled (medium_header_fields (header_for end backup) ++ Byte open_gate ∷ [])
+    ++ content_bytes backup

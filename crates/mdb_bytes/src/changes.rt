@@ -127,9 +127,11 @@ pub fn changes_of(bytes: &[u8]) -> ChangeReader<'_>
 impl<'a> ChangeReader<'a> {
     /// The next change; none at the end, and where what is left begins with no change.
     pub fn next(&mut self) -> Option<LoggedChange<'a>>
-        ensures gives { (changes : List Change) → HasChanges self.old changes → Gives result self.new changes }
+        ensures gives { (changes : List Change) → HasChanges self.old changes
+            → Gives result self.new changes }
         ensures first { MatchOption result
-            (((change : Change) → (rest : List ℕ) → BeginsWith change self.old rest → ⊥) × (self.new ≡ self.old))
+            (((change : Change) → (rest : List ℕ) → BeginsWith change self.old rest → ⊥)
+            × (self.new ≡ self.old))
             (λ logged. BeginsWith (change_of logged) self.old self.new) }
         ensures limits { IfSome result IsWithinLimits }
         ensures shorter { IfSome result (λ _. length self.new < length self.old) }

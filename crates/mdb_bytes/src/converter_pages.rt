@@ -20,7 +20,8 @@ pub struct ConverterRoot {
     pub leaves: ArrayVec<u32, 110>,
 }
 
-/// The block of a logical page and the number of the savepoint that wrote it last, both 0 for no page.
+/// The block of a logical page and the number of the savepoint that wrote it last, both 0 for no
+/// page.
 #[derive(Clone, Copy, Debug, Default, PartialEq, Eq)]
 pub struct ConverterEntry {
     pub block: u32,

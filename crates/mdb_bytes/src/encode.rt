@@ -6,10 +6,10 @@ ghost use Rattle.mdb_bytes.specs.Fields.{Byte, Two, Text, Spells, spelled, field
 ghost use Rattle.mdb_bytes.specs.Groups.{group_format, group_fits, change_fields, change_fits, longest_group};
 ghost use Rattle.mdb_bytes.specs.GroupHeads.{head_fields};
 
-use crate::group::OPEN_GATE;
 use crate::group_buf::GroupBuf;
 use byteorder::{BigEndian, ByteOrder};
 use mdb_model::change::Change;
+use mdb_model::limits::OPEN_GATE;
 use mdb_model::name::{Name, Table};
 
 fn put_two(into: &mut GroupBuf, n: u16)
@@ -41,7 +41,8 @@ fn put_eight(into: &mut GroupBuf, n: u64)
 
 /// The head of a group in place of what stood there.
 pub fn begin_group(into: &mut GroupBuf, length: u32, name: Name, number: u64, changes: u32)
-    ensures { into.new ≡ spelled (head_fields (record { length = length; name = name; number = number; changes = changes })) }
+    ensures { into.new ≡ spelled (head_fields
+        (record { length = length; name = name; number = number; changes = changes })) }
 {
     into.clear();
     into.append(&[OPEN_GATE]);
@@ -56,8 +57,10 @@ pub fn begin_group(into: &mut GroupBuf, length: u32, name: Name, number: u64, ch
 fn put_parts(into: &mut GroupBuf, table: Table, kind: u8, key: &[u8], value: &[u8])
     requires lengths { (length key.now < 2 ^ 16) × (length value.now < 2 ^ 16) }
     requires room { length into.old + (7 + length key.now + length value.now) ≤ longest_group }
-    ensures bytes { into.new ≡ into.old ++ spelled (Two table.0 ∷ Byte kind ∷ Two (length key.now) ∷ Two (length value.now) ∷ Text key.now ∷ Text value.now ∷ []) }
-    ensures fit { IsTrue (fields_fit (Two table.0 ∷ Byte kind ∷ Two (length key.now) ∷ Two (length value.now) ∷ Text key.now ∷ Text value.now ∷ [])) }
+    ensures bytes { into.new ≡ into.old ++ spelled (Two table.0 ∷ Byte kind ∷ Two (length key.now)
+        ∷ Two (length value.now) ∷ Text key.now ∷ Text value.now ∷ []) }
+    ensures fit { IsTrue (fields_fit (Two table.0 ∷ Byte kind ∷ Two (length key.now)
+        ∷ Two (length value.now) ∷ Text key.now ∷ Text value.now ∷ [])) }
 {
     put_two(into, table.0);
     into.append(&[kind]);
@@ -105,9 +108,12 @@ fn len_of(changes: &[Change]) -> usize
 
 /// The group of these changes in place of what stood there.
 pub fn encode_group(into: &mut GroupBuf, name: Name, number: u64, changes: &[Change])
-    requires fits { IsTrue (group_fits (record { name = name; number = number; changes = changes.now })) }
-    requires numbers { (name.birth < number_end) × (name.generation < number_end) × (number < number_end) }
-    ensures { Spells group_format (record { name = name; number = number; changes = changes.now }) into.new }
+    requires fits { IsTrue (group_fits (record
+        { name = name; number = number; changes = changes.now })) }
+    requires numbers { (name.birth < number_end) × (name.generation < number_end)
+        × (number < number_end) }
+    ensures { Spells group_format (record { name = name; number = number; changes = changes.now })
+        into.new }
 {
     let length = len_of(changes) as u32;
     begin_group(into, length, name, number, changes.len() as u32);

@@ -53,10 +53,13 @@ fn entry_at(place: usize, change: LoggedChange<'_>) -> ChangeEntry
     }
 }
 
-/// The change of a group with this number, counted from 0. Each call goes over the changes in front.
+/// The change of a group with this number, counted from 0. Each call goes over the changes in
+/// front.
 pub fn group_entry(bytes: &[u8], i: usize) -> Option<ChangeEntry>
-    ensures entry { (v : Group) → Spells group_format v bytes.now → FindsEntry bytes.now v.changes i result }
-    ensures within { IfSome result (λ e. (e.key.0 + e.key.1 ≤ length bytes.now) × (e.value.0 + e.value.1 ≤ length bytes.now)) }
+    ensures entry { (v : Group) → Spells group_format v bytes.now
+        → FindsEntry bytes.now v.changes i result }
+    ensures within { IfSome result (λ e. (e.key.0 + e.key.1 ≤ length bytes.now)
+        × (e.value.0 + e.value.1 ≤ length bytes.now)) }
 {
     if bytes.len() < 33 {
         return None;

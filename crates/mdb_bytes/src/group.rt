@@ -4,17 +4,10 @@ ghost use Rattle.mdb_bytes.specs.Fields.{Spells, number_at, number_end};
 ghost use Rattle.mdb_bytes.specs.Groups.{Group, group_format};
 ghost use Rattle.mdb_bytes.specs.GroupHeads.{head_of, head_read, FindsHead, IsHeadFor, IsDue};
 
-use crate::group_buf::LONGEST_GROUP;
 use crate::numbers::{byte_at, u32_at, u64_at};
 use crate::order::are_changes;
+use mdb_model::limits::{LAYOUT_NUMBER_END, LONGEST_GROUP, OPEN_GATE};
 use mdb_model::name::Name;
-
-/// The byte of an open gate. A gate with another byte is closed.
-pub const OPEN_GATE: u8 = 79;
-
-// the numbers of eight bytes end here
-const NUMBER_END: u64 = 1 << 62;
-
 /// What the first 33 bytes of a group say: how many bytes it has, the database, its number, and
 /// how many changes it has.
 #[derive(Clone, Copy, Debug, PartialEq, Eq)]
@@ -34,9 +27,12 @@ pub fn group_len(front: &[u8]) -> u32
 }
 
 fn numbers_fit(head: GroupHead) -> bool
-    ensures { IsTrue result ↔ ((head.name.birth < number_end) × (head.name.generation < number_end) × (head.number < number_end)) }
+    ensures { IsTrue result ↔ ((head.name.birth < number_end) × (head.name.generation < number_end)
+        × (head.number < number_end)) }
 {
-    head.name.birth < NUMBER_END && head.name.generation < NUMBER_END && head.number < NUMBER_END
+    head.name.birth < LAYOUT_NUMBER_END
+        && head.name.generation < LAYOUT_NUMBER_END
+        && head.number < LAYOUT_NUMBER_END
 }
 
 fn read_head(bytes: &[u8]) -> GroupHead

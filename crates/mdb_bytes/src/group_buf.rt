@@ -3,12 +3,9 @@ ghost use Rattle.std.specs.Prelude.{◌≡◌, ◌+◌, ◌<◌, ◌≤◌, [], 
 ghost use Rattle.mdb_bytes.specs.Groups.{longest_group};
 
 use mdb_model::fault::Memory;
+use mdb_model::limits::LONGEST_GROUP;
 use std::alloc::Global;
 use std::marker::Model;
-
-/// The bytes that a group has at most.
-pub const LONGEST_GROUP: usize = 1_048_576;
-
 /// The bytes of one group, at most 1,048,576. Only `new` takes memory.
 #[derive(Drop)]
 pub struct GroupBuf {
@@ -24,7 +21,8 @@ impl Model for GroupBuf {
 
     ghost view = { λ a. take a.len a.room.items };
 
-    ghost invariant = { λ a. (length a.room.items ≡ 1048577) × (a.len ≤ 1048576) × (slice_index a.room.items a.len ≡ 0) };
+    ghost invariant = { λ a. (length a.room.items ≡ 1048577) × (a.len ≤ 1048576)
+        × (slice_index a.room.items a.len ≡ 0) };
 }
 
 // So many zeros.

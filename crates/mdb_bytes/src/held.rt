@@ -59,11 +59,16 @@ pub trait Rows: Held {
     fn get(&mut self, table: Table, key: &[u8], into: &mut ValueBuf) -> Result<bool, PageFault>
         requires table { IsTrue (is_table table.0) }
         requires key { IsTrue (is_key key.now) }
-        ensures found { Self.is_known self.old → IfOk result (λ found. IsRow found (get (Self.held self.old).rows (table.0, key.now)) into.new.items) }
-        ensures same { Self.is_known self.old → OnOk result (Self.is_known self.new × (Self.held self.new ≡ Self.held self.old)) }
+        ensures found { Self.is_known self.old
+            → IfOk result (λ found. IsRow found (get (Self.held self.old).rows (table.0, key.now))
+            into.new.items) }
+        ensures same { Self.is_known self.old
+            → OnOk result (Self.is_known self.new × (Self.held self.new ≡ Self.held self.old)) }
         ensures spare { Self.spare self.old ≤ Self.spare self.new }
-        ensures cause { HasPageCause (Self.is_known self.old) (Self.faults self.old) (Self.faults self.new) result }
-        ensures quiet { IfErr result (λ fault. fault ≡ PageFault.Failed → Self.reads_devices self.old) }
+        ensures cause { HasPageCause (Self.is_known self.old) (Self.faults self.old)
+            (Self.faults self.new) result }
+        ensures quiet { IfErr result (λ fault. fault ≡ PageFault.Failed
+            → Self.reads_devices self.old) }
         ensures follows { Self.follows self.old self.new };
 
     /// Sets the value of a row.
@@ -71,20 +76,26 @@ pub trait Rows: Held {
         requires fits { IsTrue (change_fits (Put table key.now value.now)) }
         requires room { 40 ≤ Self.spare self.old }
         ensures set { Self.is_known self.old → OnOk result (Self.is_known self.new
-            × (Self.held self.new ≡ record (Self.held self.old) { rows = insert (Self.held self.old).rows (table.0, key.now) value.now })) }
+            × (Self.held self.new ≡ record (Self.held self.old)
+            { rows = insert (Self.held self.old).rows (table.0, key.now) value.now })) }
         ensures spare { Self.spare self.old ≤ Self.spare self.new + 40 }
-        ensures cause { HasPageCause (Self.is_known self.old) (Self.faults self.old) (Self.faults self.new) result }
+        ensures cause { HasPageCause (Self.is_known self.old) (Self.faults self.old)
+            (Self.faults self.new) result }
         ensures follows { Self.follows self.old self.new };
 
     /// Takes a row away; false where there is no such row.
     fn del(&mut self, table: Table, key: &[u8]) -> Result<bool, PageFault>
         requires fits { IsTrue (change_fits (Del table key.now)) }
         requires room { 40 ≤ Self.spare self.old }
-        ensures found { Self.is_known self.old → IfOk result (λ found. found ≡ is_some (get (Self.held self.old).rows (table.0, key.now))) }
+        ensures found { Self.is_known self.old
+            → IfOk result (λ found. found
+            ≡ is_some (get (Self.held self.old).rows (table.0, key.now))) }
         ensures gone { Self.is_known self.old → OnOk result (Self.is_known self.new
-            × (Self.held self.new ≡ record (Self.held self.old) { rows = remove (Self.held self.old).rows (table.0, key.now) })) }
+            × (Self.held self.new ≡ record (Self.held self.old)
+            { rows = remove (Self.held self.old).rows (table.0, key.now) })) }
         ensures spare { Self.spare self.old ≤ Self.spare self.new + 40 }
-        ensures cause { HasPageCause (Self.is_known self.old) (Self.faults self.old) (Self.faults self.new) result }
+        ensures cause { HasPageCause (Self.is_known self.old) (Self.faults self.old)
+            (Self.faults self.new) result }
         ensures follows { Self.follows self.old self.new };
 
     /// The first row of a table whose key comes after `after`, which is empty at the start of a
@@ -97,21 +108,33 @@ pub trait Rows: Held {
         value: &mut ValueBuf,
     ) -> Result<bool, PageFault>
         requires { IsTrue (is_table table.0) }
-        ensures found { Self.is_known self.old → IfOk result (λ found. IsNextRow found (next_row (Self.held self.old).rows table.0 after.now.items) key.new.items value.new.items) }
-        ensures same { Self.is_known self.old → OnOk result (Self.is_known self.new × (Self.held self.new ≡ Self.held self.old)) }
+        ensures found { Self.is_known self.old
+            → IfOk result (λ found. IsNextRow found
+            (next_row (Self.held self.old).rows table.0 after.now.items) key.new.items
+            value.new.items) }
+        ensures same { Self.is_known self.old
+            → OnOk result (Self.is_known self.new × (Self.held self.new ≡ Self.held self.old)) }
         ensures spare { Self.spare self.old ≤ Self.spare self.new }
-        ensures cause { HasPageCause (Self.is_known self.old) (Self.faults self.old) (Self.faults self.new) result }
-        ensures quiet { IfErr result (λ fault. fault ≡ PageFault.Failed → Self.reads_devices self.old) }
+        ensures cause { HasPageCause (Self.is_known self.old) (Self.faults self.old)
+            (Self.faults self.new) result }
+        ensures quiet { IfErr result (λ fault. fault ≡ PageFault.Failed
+            → Self.reads_devices self.old) }
         ensures follows { Self.follows self.old self.new };
 
     /// How many pages a table has. They are no more than the space rule counts for its rows.
     fn pages(&mut self, table: Table) -> Result<u32, PageFault>
         requires { IsTrue (is_table table.0) }
-        ensures count { Self.is_known self.old → IfOk result (λ count. count ≤ table_pages (table_cost (Self.held self.old).rows (Self.held self.old).rows table.0)) }
-        ensures same { Self.is_known self.old → OnOk result (Self.is_known self.new × (Self.held self.new ≡ Self.held self.old)) }
+        ensures count { Self.is_known self.old
+            → IfOk result (λ count. count
+            ≤ table_pages (table_cost (Self.held self.old).rows (Self.held self.old).rows
+            table.0)) }
+        ensures same { Self.is_known self.old
+            → OnOk result (Self.is_known self.new × (Self.held self.new ≡ Self.held self.old)) }
         ensures spare { Self.spare self.old ≤ Self.spare self.new }
-        ensures cause { HasPageCause (Self.is_known self.old) (Self.faults self.old) (Self.faults self.new) result }
-        ensures quiet { IfErr result (λ fault. fault ≡ PageFault.Failed → Self.reads_devices self.old) }
+        ensures cause { HasPageCause (Self.is_known self.old) (Self.faults self.old)
+            (Self.faults self.new) result }
+        ensures quiet { IfErr result (λ fault. fault ≡ PageFault.Failed
+            → Self.reads_devices self.old) }
         ensures follows { Self.follows self.old self.new };
 }
 
@@ -137,12 +160,25 @@ pub trait UndoFile: Held {
         before: Option<&[u8]>,
     ) -> Result<(), PageFault>
         requires session { IsTrue (is_session session.0) }
-        requires fits { IsTrue (before_fits (record { place = (table.0, key.now); value = option_map (λ value. value.now) before })) }
+        requires fits { IsTrue (before_fits
+            (record {
+              place = (table.0, key.now);
+              value = option_map (λ value. value.now)
+                  before;
+            })) }
         requires room { 2 ≤ Self.spare self.old }
         ensures noted { Self.is_known self.old → OnOk result (Self.is_known self.new
-            × (Self.held self.new ≡ record (Self.held self.old) { undo = noted (Self.held self.old).undo session.0 (record { place = (table.0, key.now); value = option_map (λ value. value.now) before.entry }) })) }
+            × (Self.held self.new ≡ record (Self.held self.old) {
+              undo = noted (Self.held self.old).undo session.0
+                  (record {
+                    place = (table.0, key.now);
+                    value = option_map (λ value. value.now)
+                        before.entry;
+                  });
+            })) }
         ensures spare { Self.spare self.old ≤ Self.spare self.new + 2 }
-        ensures cause { HasPageCause (Self.is_known self.old) (Self.faults self.old) (Self.faults self.new) result }
+        ensures cause { HasPageCause (Self.is_known self.old) (Self.faults self.old)
+            (Self.faults self.new) result }
         ensures follows { Self.follows self.old self.new };
 
     /// Takes the last entry from a session's file; false where the file is empty, and then `into`
@@ -151,11 +187,18 @@ pub trait UndoFile: Held {
     fn take_last(&mut self, session: Session, into: &mut UndoEntry) -> Result<bool, PageFault>
         requires session { IsTrue (is_session session.0) }
         requires room { 2 ≤ Self.spare self.old }
-        ensures taken { Self.is_known self.old → IfOk result (λ taken. IsLastTaken taken (Self.held self.old).undo (Self.held self.new).undo session.0 (before_of into.new)) }
-        ensures fits { IfOk result (λ taken. taken ≡ true → IsTrue (before_fits (before_of into.new))) }
-        ensures same { Self.is_known self.old → OnOk result (Self.is_known self.new × (Self.held self.new ≡ record (Self.held self.old) { undo = (Self.held self.new).undo })) }
+        ensures taken { Self.is_known self.old
+            → IfOk result (λ taken. IsLastTaken taken (Self.held self.old).undo
+            (Self.held self.new).undo session.0 (before_of into.new)) }
+        ensures fits { IfOk result (λ taken. taken ≡ true
+            → IsTrue (before_fits (before_of into.new))) }
+        ensures same { Self.is_known self.old
+            → OnOk result (Self.is_known self.new
+            × (Self.held self.new ≡ record (Self.held self.old)
+            { undo = (Self.held self.new).undo })) }
         ensures spare { Self.spare self.old ≤ Self.spare self.new + 2 }
-        ensures cause { HasPageCause (Self.is_known self.old) (Self.faults self.old) (Self.faults self.new) result }
+        ensures cause { HasPageCause (Self.is_known self.old) (Self.faults self.old)
+            (Self.faults self.new) result }
         ensures follows { Self.follows self.old self.new };
 
     /// Empties a session's file. It may be empty already.
@@ -163,9 +206,11 @@ pub trait UndoFile: Held {
         requires session { IsTrue (is_session session.0) }
         requires room { 1 ≤ Self.spare self.old }
         ensures dropped { Self.is_known self.old → OnOk result (Self.is_known self.new
-            × (Self.held self.new ≡ record (Self.held self.old) { undo = without_file (Self.held self.old).undo session.0 })) }
+            × (Self.held self.new ≡ record (Self.held self.old)
+            { undo = without_file (Self.held self.old).undo session.0 })) }
         ensures spare { Self.spare self.old ≤ Self.spare self.new + 1 }
-        ensures cause { HasPageCause (Self.is_known self.old) (Self.faults self.old) (Self.faults self.new) result }
+        ensures cause { HasPageCause (Self.is_known self.old) (Self.faults self.old)
+            (Self.faults self.new) result }
         ensures follows { Self.follows self.old self.new };
 }
 
@@ -179,8 +224,10 @@ pub trait Work: Rows + UndoFile {
     /// leaves fewer, that is called damaged. What is left of the room where it fails is not said.
     fn room(&mut self) -> Result<(), PageFault>
         ensures room { OnOk result (64 ≤ Self.spare self.new) }
-        ensures same { Self.is_known self.old → OnOk result (Self.is_known self.new × (Self.held self.new ≡ Self.held self.old)) }
-        ensures cause { HasRoomCause (Self.is_known self.old) (Self.spare_after_savepoint self.old) (Self.faults self.old) (Self.faults self.new) result }
+        ensures same { Self.is_known self.old
+            → OnOk result (Self.is_known self.new × (Self.held self.new ≡ Self.held self.old)) }
+        ensures cause { HasRoomCause (Self.is_known self.old) (Self.spare_after_savepoint self.old)
+            (Self.faults self.old) (Self.faults self.new) result }
         ensures follows { Self.follows self.old self.new };
 }
 
@@ -188,9 +235,15 @@ pub trait Work: Rows + UndoFile {
 pub trait LogRead: Held {
     /// Reads the group of the first commit that is left; false at the end of the log.
     fn next(&mut self, into: &mut GroupBuf) -> Result<bool, PageFault>
-        ensures found { Self.is_known self.old → IfOk result (λ found. IsNextGroup found (Self.held self.old).log (Self.held self.new).log into.new) }
-        ensures same { Self.is_known self.old → OnOk result (Self.is_known self.new × (Self.held self.new ≡ record (Self.held self.old) { log = (Self.held self.new).log })) }
+        ensures found { Self.is_known self.old
+            → IfOk result (λ found. IsNextGroup found (Self.held self.old).log
+            (Self.held self.new).log into.new) }
+        ensures same { Self.is_known self.old
+            → OnOk result (Self.is_known self.new
+            × (Self.held self.new ≡ record (Self.held self.old)
+            { log = (Self.held self.new).log })) }
         ensures spare { Self.spare self.old ≤ Self.spare self.new }
-        ensures cause { HasPageCause (Self.is_known self.old) (Self.faults self.old) (Self.faults self.new) result }
+        ensures cause { HasPageCause (Self.is_known self.old) (Self.faults self.old)
+            (Self.faults self.new) result }
         ensures follows { Self.follows self.old self.new };
 }

@@ -110,7 +110,8 @@ pub fn check_index_page(bytes: &[u8]) -> bool
 /// slot tells its place. Of bytes that are no index page it is only known that the separator lies
 /// within them.
 pub fn index_page_entry(bytes: &[u8], i: usize) -> Option<IndexPageEntry>
-    ensures entry { (v : IndexPage) → Spells index_format v bytes.now → FindsEntry (IsChildEntry bytes.now) v.children i result }
+    ensures entry { (v : IndexPage) → Spells index_format v bytes.now
+        → FindsEntry (IsChildEntry bytes.now) v.children i result }
     ensures within { IfSome result (λ e. e.key.0 + e.key.1 ≤ length bytes.now) }
 {
     let Some((place, front)) = entry_front(bytes, i) else {

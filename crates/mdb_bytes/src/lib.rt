@@ -32,8 +32,8 @@ pub use converter_pages::{
 };
 pub use encode::{begin_group, encode_group, put_change};
 pub use entry::{ChangeEntry, group_entry};
-pub use group::{GroupHead, OPEN_GATE, check_group, group_head, group_len, is_due};
-pub use group_buf::{GroupBuf, LONGEST_GROUP};
+pub use group::{GroupHead, check_group, group_head, group_len, is_due};
+pub use group_buf::GroupBuf;
 pub use held::{Held, LogRead, Rows, UndoEntry, UndoFile, Work};
 pub use index_page::{IndexPageEntry, check_index_page, index_page_entry};
 pub use laws::{numbers_follow_from_bytes, pages_have_one_value, records_have_one_value};

@@ -202,7 +202,8 @@ impl Record for OpenEntry {
 
 fn sessions_at(bytes: &[u8], at: usize) -> ArrayVec<OpenEntry, 64>
     requires { (10 ≤ length bytes.now) × (at + 768 ≤ length bytes.now) }
-    ensures { result.items ≡ read_run open_entry_reads (λ e. 12) (min (number_at 2 8 bytes.now) 64) (drop at bytes.now) }
+    ensures { result.items ≡ read_run open_entry_reads (λ e. 12) (min (number_at 2 8 bytes.now) 64)
+        (drop at bytes.now) }
 {
     read_table(behind(bytes, at), u16_at(bytes, 8).min(64) as usize)
 }

@@ -6,9 +6,8 @@ ghost use Rattle.mdb_bytes.specs.UndoPages.{UndoPage, undo_page_format};
 ghost use Rattle.mdb_bytes.specs.EntryPages.{page_head_in, leaf_head, index_head, undo_head, FindsSections, FindsFront, follows, key_in};
 
 use crate::numbers::{byte_at, u16_at, u32_at};
+use mdb_model::limits::PAGE_BYTES;
 use std::cmp::Ordering;
-
-const PAGE_LEN: usize = 8192;
 
 // how many bytes of a header its fields take, and how many are zero behind them
 const NAMED_LEN: usize = 16;
@@ -60,9 +59,11 @@ fn head_at_front(bytes: &[u8]) -> PageHead
 pub fn page_head(bytes: &[u8]) -> PageHead
     requires { 64 ≤ length bytes.now }
     ensures read { result ≡ page_head_in bytes.now }
-    ensures row_leaf { (longest : ℕ) → (v : RowLeaf) → Spells (row_leaf_format longest) v bytes.now → result ≡ leaf_head v }
+    ensures row_leaf { (longest : ℕ) → (v : RowLeaf) → Spells (row_leaf_format longest) v bytes.now
+        → result ≡ leaf_head v }
     ensures index_page { (v : IndexPage) → Spells index_format v bytes.now → result ≡ index_head v }
-    ensures undo_page { (longest : ℕ) → (v : UndoPage) → Spells (undo_page_format longest) v bytes.now → result ≡ undo_head v }
+    ensures undo_page { (longest : ℕ) → (v : UndoPage)
+        → Spells (undo_page_format longest) v bytes.now → result ≡ undo_head v }
 {
     head_at_front(bytes)
 }
@@ -78,7 +79,7 @@ pub fn sections_of(bytes: &[u8], slot_len: usize) -> Option<Sections<'_>>
     requires { slot_len ≤ 2 }
     ensures { FindsSections slot_len bytes.now result }
 {
-    if bytes.len() != PAGE_LEN {
+    if bytes.len() != PAGE_BYTES {
         return None;
     }
     let head = head_at_front(bytes);
@@ -137,14 +138,14 @@ pub fn slots_in_front(slots: &[u8], place: usize) -> Option<&[u8]>
 pub fn entry_front(bytes: &[u8], i: usize) -> Option<(usize, &[u8])>
     ensures { FindsFront bytes.now i result }
 {
-    if bytes.len() != PAGE_LEN || i >= MOST_SLOTS {
+    if bytes.len() != PAGE_BYTES || i >= MOST_SLOTS {
         return None;
     }
     if i >= u16_at(bytes, 8) as usize {
         return None;
     }
-    let place = u16_at(bytes, PAGE_LEN - 2 * (i + 1)) as usize;
-    if place > PAGE_LEN {
+    let place = u16_at(bytes, PAGE_BYTES - 2 * (i + 1)) as usize;
+    if place > PAGE_BYTES {
         return None;
     }
     Some((place, bytes.split_at(place).1))

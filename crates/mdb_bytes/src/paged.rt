@@ -74,32 +74,48 @@ pub trait Pages {
     /// which number it gets.
     fn new_page(&mut self) -> Result<u32, PageFault>
         requires { 1 ≤ Self.spare self.old }
-        ensures fresh { IfOk result (λ page. IsNew page (Self.is_known self.old) (Self.is_known self.new) (Self.pages self.old) (Self.pages self.new) (Self.paid self.old) (Self.paid self.new)) }
-        ensures kept { OnErr result (IsKept (Self.is_known self.old) (Self.is_known self.new) 1 (Self.pages self.old) (Self.pages self.new) (Self.paid self.old) (Self.paid self.new) (Self.spare self.old) (Self.spare self.new)) }
+        ensures fresh { IfOk result (λ page. IsNew page (Self.is_known self.old)
+            (Self.is_known self.new) (Self.pages self.old) (Self.pages self.new)
+            (Self.paid self.old) (Self.paid self.new)) }
+        ensures kept { OnErr result (IsKept (Self.is_known self.old) (Self.is_known self.new) 1
+            (Self.pages self.old) (Self.pages self.new) (Self.paid self.old) (Self.paid self.new)
+            (Self.spare self.old) (Self.spare self.new)) }
         ensures spare { Self.spare self.old ≤ Self.spare self.new + 1 }
-        ensures cause { HasPageCause (Self.is_known self.old) (Self.faults self.old) (Self.faults self.new) result }
+        ensures cause { HasPageCause (Self.is_known self.old) (Self.faults self.old)
+            (Self.faults self.new) result }
         ensures follows { Self.follows self.old self.new };
 
     /// Takes a page away. What its block has from then on is not said, and no spare page is
     /// promised for it.
     fn free_page(&mut self, page: u32) -> Result<(), PageFault>
         requires { IsTrue (is_live (Self.pages self.old) page) }
-        ensures freed { Self.is_known self.old → OnOk result (Self.is_known self.new × (Self.pages self.new ≡ remove (Self.pages self.old) page)) }
-        ensures gone { OnOk result (AsLive (Self.pages self.new) (remove (Self.pages self.old) page)) }
-        ensures stay_paid { OnOk result ((other : ℕ) → other ≢ page → is_paid (Self.paid self.old) other ≡ true → is_paid (Self.paid self.new) other ≡ true) }
-        ensures kept { OnErr result (IsKept (Self.is_known self.old) (Self.is_known self.new) 0 (Self.pages self.old) (Self.pages self.new) (Self.paid self.old) (Self.paid self.new) (Self.spare self.old) (Self.spare self.new)) }
+        ensures freed { Self.is_known self.old
+            → OnOk result (Self.is_known self.new
+            × (Self.pages self.new ≡ remove (Self.pages self.old) page)) }
+        ensures gone { OnOk result (AsLive (Self.pages self.new)
+            (remove (Self.pages self.old) page)) }
+        ensures stay_paid { OnOk result ((other : ℕ) → other ≢ page
+            → is_paid (Self.paid self.old) other ≡ true
+            → is_paid (Self.paid self.new) other ≡ true) }
+        ensures kept { OnErr result (IsKept (Self.is_known self.old) (Self.is_known self.new) 0
+            (Self.pages self.old) (Self.pages self.new) (Self.paid self.old) (Self.paid self.new)
+            (Self.spare self.old) (Self.spare self.new)) }
         ensures spare { Self.spare self.old ≤ Self.spare self.new }
-        ensures cause { HasPageCause (Self.is_known self.old) (Self.faults self.old) (Self.faults self.new) result }
+        ensures cause { HasPageCause (Self.is_known self.old) (Self.faults self.old)
+            (Self.faults self.new) result }
         ensures follows { Self.follows self.old self.new };
 
     /// Lends the bytes of a page to be read. Whether a device is called for them is not said.
     fn read(&mut self, page: u32) -> Result<&[u8; 8192], PageFault>
         requires { IsTrue (is_live (Self.pages self.old) page) }
         ensures* lends { sem 𝓛 (follows_so Self.row Self.row self.entry.ghost_name none (λ _ _. ⊤)
-            (λ left. IsKept (Self.is_known self.old) (Self.is_known left) 0 (Self.pages self.old) (Self.pages left) (Self.paid self.old) (Self.paid left) (Self.spare self.old) (Self.spare left)
+            (λ left. IsKept (Self.is_known self.old) (Self.is_known left) 0 (Self.pages self.old)
+            (Self.pages left) (Self.paid self.old) (Self.paid left) (Self.spare self.old)
+            (Self.spare left)
             × HasPageCause (Self.is_known self.old) (Self.faults self.old) (Self.faults left) result
             × Self.follows self.old left)) }
-        ensures bytes { IfOk result (λ lent. Self.is_known self.old → get (Self.pages self.old) page ≡ Some lent.now) };
+        ensures bytes { IfOk result (λ lent. Self.is_known self.old
+            → get (Self.pages self.old) page ≡ Some lent.now) };
 
     /// Lends the bytes of a page to be written. The page is paid from then on. When they reach a
     /// device is not said.
@@ -107,26 +123,40 @@ pub trait Pages {
         requires lives { IsTrue (is_live (Self.pages self.old) page) }
         requires room { price (Self.paid self.old) page ≤ Self.spare self.old }
         ensures* lends { sem 𝓛 (LendsSoOk Self.row (Array u8 8192) self.entry result
-            (λ left bytes. IsWritten page bytes (Self.is_known self.old) (Self.is_known left) (Self.pages self.old) (Self.pages left) (Self.paid self.old) (Self.paid left) (Self.spare self.old) (Self.spare left)
+            (λ left bytes. IsWritten page bytes (Self.is_known self.old) (Self.is_known left)
+            (Self.pages self.old) (Self.pages left) (Self.paid self.old) (Self.paid left)
+            (Self.spare self.old) (Self.spare left)
             × HasPageCause (Self.is_known self.old) (Self.faults self.old) (Self.faults left) result
             × Self.follows self.old left)
-            (λ left. IsKept (Self.is_known self.old) (Self.is_known left) (price (Self.paid self.old) page) (Self.pages self.old) (Self.pages left) (Self.paid self.old) (Self.paid left) (Self.spare self.old) (Self.spare left)
+            (λ left. IsKept (Self.is_known self.old) (Self.is_known left)
+            (price (Self.paid self.old) page) (Self.pages self.old) (Self.pages left)
+            (Self.paid self.old) (Self.paid left) (Self.spare self.old) (Self.spare left)
             × HasPageCause (Self.is_known self.old) (Self.faults self.old) (Self.faults left) result
             × Self.follows self.old left)) }
-        ensures bytes { IfOk result (λ lent. Self.is_known self.old → get (Self.pages self.old) page ≡ Some lent.now) };
+        ensures bytes { IfOk result (λ lent. Self.is_known self.old
+            → get (Self.pages self.old) page ≡ Some lent.now) };
 
     /// Edits two pages at once, and answers what the edit answers. Both pages are paid from then
     /// on, also where the edit refuses them. Where the call fails, there was no edit.
     fn write_pair<E: PairEdit>(&mut self, a: u32, b: u32, edit: &E) -> Result<bool, PageFault>
-        requires lives { IsTrue (is_live (Self.pages self.old) a) × IsTrue (is_live (Self.pages self.old) b) }
+        requires lives { IsTrue (is_live (Self.pages self.old) a)
+            × IsTrue (is_live (Self.pages self.old) b) }
         requires differ { a ≢ b }
-        requires room { price (Self.paid self.old) a + price (Self.paid self.old) b ≤ Self.spare self.old }
+        requires room { price (Self.paid self.old) a + price (Self.paid self.old) b
+            ≤ Self.spare self.old }
         requires may { MayEdit (Self.is_known self.old) (Self.pages self.old) a b (E.may edit.now) }
-        ensures edited { IfOk result (λ answer. AreEdited (E.does edit.now answer) a b (Self.is_known self.old) (Self.is_known self.new) (Self.pages self.old) (Self.pages self.new) (Self.paid self.old) (Self.paid self.new)) }
-        ensures kept { OnErr result (IsKept (Self.is_known self.old) (Self.is_known self.new) (price (Self.paid self.old) a + price (Self.paid self.old) b) (Self.pages self.old) (Self.pages self.new) (Self.paid self.old) (Self.paid self.new) (Self.spare self.old) (Self.spare self.new)) }
+        ensures edited { IfOk result (λ answer. AreEdited (E.does edit.now answer) a b
+            (Self.is_known self.old) (Self.is_known self.new) (Self.pages self.old)
+            (Self.pages self.new) (Self.paid self.old) (Self.paid self.new)) }
+        ensures kept { OnErr result (IsKept (Self.is_known self.old) (Self.is_known self.new)
+            (price (Self.paid self.old) a
+            + price (Self.paid self.old) b) (Self.pages self.old) (Self.pages self.new)
+            (Self.paid self.old) (Self.paid self.new) (Self.spare self.old) (Self.spare self.new)) }
         ensures stay_paid { StayPaid (Self.paid self.old) (Self.paid self.new) }
-        ensures spare { Self.spare self.old ≤ Self.spare self.new + price (Self.paid self.old) a + price (Self.paid self.old) b }
-        ensures cause { HasPageCause (Self.is_known self.old) (Self.faults self.old) (Self.faults self.new) result }
+        ensures spare { Self.spare self.old ≤ Self.spare self.new + price (Self.paid self.old) a
+            + price (Self.paid self.old) b }
+        ensures cause { HasPageCause (Self.is_known self.old) (Self.faults self.old)
+            (Self.faults self.new) result }
         ensures follows { Self.follows self.old self.new };
 }
 

@@ -6,11 +6,8 @@ ghost use Rattle.mdb_bytes.specs.Parts.{field_of, field_len, fields_len};
 
 use crate::numbers::u64_at;
 use byteorder::{BigEndian, ByteOrder};
+use mdb_model::limits::LAYOUT_NUMBER_END;
 use mdb_model::name::Name;
-
-// the numbers of eight bytes end here
-const NUMBER_END: u64 = 1 << 62;
-
 /// A part of a record: a number of one, two, four or eight bytes, bytes that are zero, or eight
 /// letters, as the number that their bytes are.
 #[derive(Clone, Copy)]
@@ -44,7 +41,7 @@ impl Part {
             Part::Byte(_number) => true,
             Part::Two(_number) => true,
             Part::Four(_number) => true,
-            Part::Eight(number) => number < NUMBER_END,
+            Part::Eight(number) => number < LAYOUT_NUMBER_END,
             Part::Zeros(_) => true,
             Part::Letters(_letters) => true,
         }
@@ -108,7 +105,11 @@ pub(crate) fn parts_fit(parts: &[Part]) -> bool
 /// The name of a database, its birth first.
 pub(crate) fn name_at(bytes: &[u8], at: usize) -> Name
     requires { at + 16 ≤ length bytes.now }
-    ensures { result ≡ record { birth = number_at 8 at bytes.now; generation = number_at 8 (at + 8) bytes.now } }
+    ensures { result ≡ record {
+      birth = number_at 8 at bytes.now;
+      generation = number_at 8 (at
+          + 8) bytes.now;
+    } }
 {
     Name {
         birth: u64_at(bytes, at),

@@ -81,7 +81,8 @@ pub(crate) fn write_table<R: Record>(into: &mut [u8], rows: &[R])
 pub(crate) fn write_section<R: Record>(into: &mut [u8], parts: &[Part], at: usize, rows: &[R])
     requires place { fields_len (map field_of parts.now) ≡ at }
     requires room { at + R.size * length rows.now ≤ length into.old }
-    ensures { into.new ≡ spelled (map field_of parts.now ++ table_fields R.format.fields R.size (length into.old - at) rows.now) }
+    ensures { into.new ≡ spelled (map field_of parts.now
+        ++ table_fields R.format.fields R.size (length into.old - at) rows.now) }
 {
     let (front, back) = into.split_at_mut(at);
     write_parts(front, parts);
@@ -90,7 +91,8 @@ pub(crate) fn write_section<R: Record>(into: &mut [u8], parts: &[Part], at: usiz
 
 /// Whether the fields of some parts and of the rows behind them have room for their numbers.
 pub(crate) fn section_has_room<R: Record>(parts: &[Part], rows: &[R]) -> bool
-    ensures { (room : ℕ) → result ≡ fields_fit (map field_of parts.now ++ table_fields R.format.fields R.size room rows.now) }
+    ensures { (room : ℕ) → result ≡ fields_fit (map field_of parts.now
+        ++ table_fields R.format.fields R.size room rows.now) }
 {
     parts_fit(parts) && rows_have_room(rows)
 }
@@ -257,9 +259,9 @@ macro_rules! read_parts {
     };
 }
 
-// The bodies of a record from the table of its fields: the place of each, and what stands there. The
-// rows of a `table` stand from its place on; the place where their `count` stands and the most that
-// there may be are told with it. A record with tables has a section in front of each of them.
+// The bodies of a record from the table of its fields: the place of each, and what stands there.
+// The rows of a `table` stand from its place on; the place where their `count` stands and the most
+// that there may be are told with it. A record with tables has a section in front of each of them.
 macro_rules! record {
     (front $v:ident; $name:ident; {$($front:tt)*} $($more:tt)*) => { parts_of!($v; []; $($front)*) };
     (middle $v:ident; $name:ident; {$($front:tt)*} {$($middle:tt)*}) => { parts_of!($v; []; $($middle)*) };

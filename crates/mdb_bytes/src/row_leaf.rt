@@ -45,8 +45,10 @@ fn is_kept(head: RowHead) -> bool
 // no row.
 fn first_row(bytes: &[u8]) -> Option<(&[u8], &[u8])>
     ensures { MatchOption result
-        ((row : Row) → (rest : List ℕ) → BeginsWith (row_format longest_value) row bytes.now rest → ⊥)
-        (λ r. (value : List ℕ) × BeginsWith (row_format longest_value) (r.0.now, value) bytes.now r.1.now) }
+        ((row : Row) → (rest : List ℕ) → BeginsWith (row_format longest_value) row bytes.now rest
+        → ⊥)
+        (λ r. (value : List ℕ) × BeginsWith (row_format longest_value) (r.0.now, value) bytes.now
+        r.1.now) }
 {
     if bytes.len() < 6 {
         return None;
@@ -91,13 +93,14 @@ fn are_rows(rows: &[u8], slots: &[u8], count: usize) -> bool
 }
 
 fn is_leaf_head(head: PageHead) -> bool
-    ensures { IsTrue result ↔ ((head.kind ≡ 1) × (head.level ≡ 0) × (1 ≤ head.table) × (head.table ≤ 500)) }
+    ensures { IsTrue result ↔ ((head.kind ≡ 1) × (head.level ≡ 0) × (1 ≤ head.table)
+        × (head.table ≤ 500)) }
 {
     head.kind == 1 && head.level == 0 && head.table >= 1 && head.table <= 500
 }
 
-/// Whether the bytes are a row leaf, with values of at most 1,500 bytes. It walks once over the rows,
-/// where they stand.
+/// Whether the bytes are a row leaf, with values of at most 1,500 bytes. It walks once over the
+/// rows, where they stand.
 pub fn check_row_leaf(bytes: &[u8]) -> bool
     ensures { IsTrue result ↔ ((v : RowLeaf) × Spells (row_leaf_format longest_value) v bytes.now) }
 {
@@ -110,13 +113,14 @@ pub fn check_row_leaf(bytes: &[u8]) -> bool
     are_rows(page.entries, page.slots, page.head.count as usize)
 }
 
-/// The row of a row leaf with this number, counted from 0; none where there are no more rows. Its slot
-/// tells its place. Values may have any length. Of bytes that are no row leaf it is only known that
-/// the places lie within them.
+/// The row of a row leaf with this number, counted from 0; none where there are no more rows. Its
+/// slot tells its place. Values may have any length. Of bytes that are no row leaf it is only known
+/// that the places lie within them.
 pub fn row_leaf_entry(bytes: &[u8], i: usize) -> Option<RowLeafEntry>
     ensures entry { (longest : ℕ) → (v : RowLeaf) → Spells (row_leaf_format longest) v bytes.now
         → FindsEntry (IsRowEntry bytes.now) v.rows i result }
-    ensures within { IfSome result (λ e. (e.key.0 + e.key.1 ≤ length bytes.now) × (e.value.0 + e.value.1 ≤ length bytes.now)) }
+    ensures within { IfSome result (λ e. (e.key.0 + e.key.1 ≤ length bytes.now)
+        × (e.value.0 + e.value.1 ≤ length bytes.now)) }
 {
     let Some((place, front)) = entry_front(bytes, i) else {
         return None;

@@ -9,12 +9,10 @@ ghost use Rattle.mdb_bytes.specs.PageEntries.{FindsEntry, IsUndoEntry, SkipsUndo
 
 use crate::numbers::{byte_at, u16_at, u64_at};
 use crate::page_sections::{PageHead, sections_of};
-
-// the numbers of eight bytes end here
-const NUMBER_END: u64 = 1 << 62;
-
-/// An entry in the bytes of an undo page: its table, its kind (0 no row stood there before, 1 a row),
-/// its number in the file, and the first place and the length of its key and of the value before.
+use mdb_model::limits::LAYOUT_NUMBER_END;
+/// An entry in the bytes of an undo page: its table, its kind (0 no row stood there before, 1 a
+/// row), its number in the file, and the first place and the length of its key and of the value
+/// before.
 #[derive(Clone, Copy, Debug, PartialEq, Eq)]
 pub struct UndoPageEntry {
     pub table: u16,
@@ -60,13 +58,14 @@ fn has_kept_lengths(head: UndoHead) -> bool
 }
 
 fn has_kept_numbers(head: UndoHead) -> bool
-    ensures { IsTrue result ↔ (((1 ≤ head.table) × (head.table ≤ 500)) × (head.zero ≡ 0) × ((1 ≤ head.number) × (head.number < number_end))) }
+    ensures { IsTrue result ↔ (((1 ≤ head.table) × (head.table ≤ 500)) × (head.zero ≡ 0)
+        × ((1 ≤ head.number) × (head.number < number_end))) }
 {
     head.table >= 1
         && head.table <= 500
         && head.zero == 0
         && head.number >= 1
-        && head.number < NUMBER_END
+        && head.number < LAYOUT_NUMBER_END
 }
 
 // The front of the entry that stands at the front; none where the bytes have no room for it.
@@ -96,8 +95,10 @@ fn behind(bytes: &[u8], head: UndoHead) -> &[u8]
 // What stands behind the entry at the front; none where the bytes begin with no entry.
 fn behind_first(bytes: &[u8]) -> Option<&[u8]>
     ensures { MatchOption result
-        ((v : UndoEntry) → (rest : List ℕ) → BeginsWith (undo_entry_format longest_value) v bytes.now rest → ⊥)
-        (λ rest. (v : UndoEntry) × BeginsWith (undo_entry_format longest_value) v bytes.now rest.now) }
+        ((v : UndoEntry) → (rest : List ℕ)
+        → BeginsWith (undo_entry_format longest_value) v bytes.now rest → ⊥)
+        (λ rest. (v : UndoEntry) × BeginsWith (undo_entry_format longest_value) v bytes.now
+        rest.now) }
 {
     let Some(head) = whole_head(bytes) else {
         return None;
@@ -134,7 +135,8 @@ fn is_undo_head(head: PageHead) -> bool
 /// Whether the bytes are an undo page, with values of at most 1,500 bytes. It walks once over the
 /// entries, where they stand.
 pub fn check_undo_page(bytes: &[u8]) -> bool
-    ensures { IsTrue result ↔ ((v : UndoPage) × Spells (undo_page_format longest_value) v bytes.now) }
+    ensures { IsTrue result ↔ ((v : UndoPage)
+        × Spells (undo_page_format longest_value) v bytes.now) }
 {
     let Some(page) = sections_of(bytes, 0) else {
         return false;
@@ -173,13 +175,14 @@ fn entry_of(place: usize, head: UndoHead) -> UndoPageEntry
     }
 }
 
-/// The entry of an undo page with this number, counted from 0; none where there are no more. Each call
-/// goes over the entries in front. Values may have any length. Of bytes that are no undo page it is
-/// only known that the places lie within them.
+/// The entry of an undo page with this number, counted from 0; none where there are no more. Each
+/// call goes over the entries in front. Values may have any length. Of bytes that are no undo page
+/// it is only known that the places lie within them.
 pub fn undo_page_entry(bytes: &[u8], i: usize) -> Option<UndoPageEntry>
     ensures entry { (longest : ℕ) → (v : UndoPage) → Spells (undo_page_format longest) v bytes.now
         → FindsEntry (IsUndoEntry bytes.now) v.entries i result }
-    ensures within { IfSome result (λ e. (e.key.0 + e.key.1 ≤ length bytes.now) × (e.before.0 + e.before.1 ≤ length bytes.now)) }
+    ensures within { IfSome result (λ e. (e.key.0 + e.key.1 ≤ length bytes.now)
+        × (e.before.0 + e.before.1 ≤ length bytes.now)) }
 {
     if bytes.len() < 64 {
         return None;

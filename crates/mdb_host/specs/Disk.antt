@@ -38,26 +38,33 @@ pub record Disk : Type 1 where
 pub record Keeps (old new : Disk) : Type 0 where
   pub later : old.now ≤ new.now
   pub kept : (t : ℕ) (image : Image) → t ≤ old.now → old.may_leave t image → new.may_leave t image
-  pub no_more : (t : ℕ) (image : Image) → t ≤ old.now → new.may_leave t image → old.may_leave t image
+  pub no_more : (t : ℕ) (image : Image) → t ≤ old.now → new.may_leave t image
+      → old.may_leave t image
   pub said : (t : ℕ) → t ≤ old.now → new.said t ≡ old.said t
 
--- Nothing was said since old, and each image that a crash at a moment since then may leave comes by `step`
--- from one that a crash at old may leave.
+-- Nothing was said since old, and each image that a crash at a moment since then may leave comes by
+-- `step` from one that a crash at old may leave.
 pub record Goes (old new : Disk) (step : Image → Image → Type 0) : Type 0 where
   pub keeps : Keeps old new
-  pub since : (t : ℕ) (image : Image) → old.now ≤ t → t ≤ new.now → new.may_leave t image → (before : Image) × old.may_leave old.now before × step before image
+  pub since : (t : ℕ) (image : Image) → old.now ≤ t → t ≤ new.now → new.may_leave t image
+      → (before : Image) × old.may_leave old.now before × step before image
   pub quiet : (t : ℕ) → old.now ≤ t → t ≤ new.now → new.said t ≡ old.said old.now
 
 -- each image that a crash now may leave comes by the step from one at old
 abbrev pub Arrives : Disk → Disk → (Image → Image → Type 0) → Type 0
-Arrives old new step = (image : Image) → new.may_leave new.now image → (before : Image) × old.may_leave old.now before × step before image
+Arrives old new step =
+    (image : Image) → new.may_leave new.now image
+    → (before : Image) × old.may_leave old.now before × step before image
 
--- at each moment since old, each image that a crash may leave has `holds` together with what was said by then
+-- at each moment since old, each image that a crash may leave has `holds` together with what was
+-- said by then
 pub record Runs (old new : Disk) (holds : Image → List ℕ → Type 0) : Type 0 where
   pub keeps : Keeps old new
-  pub each : (t : ℕ) (image : Image) → old.now ≤ t → t ≤ new.now → new.may_leave t image → holds image (new.said t)
+  pub each : (t : ℕ) (image : Image) → old.now ≤ t → t ≤ new.now → new.may_leave t image
+      → holds image (new.said t)
 
--- One call on a device: a moment more, or none where it failed, an image comes by the step from one before, and so does what a read gives.
+-- One call on a device: a moment more, or none where it failed, an image comes by the step from one
+-- before, and so does what a read gives.
 pub record Calls (old new : Disk) (step : Image → Image → Type 0) : Type 0 where
   pub no_more_than_one : new.now ≤ old.now + 1
   pub goes : Goes old new step

@@ -38,7 +38,9 @@ image_of slots d = held (slice_get slots (code d))
 -- these bytes over a place of a device, where they have room
 abbrev pub over : ℕ → List ℕ → Option (List ℕ) → Option (List ℕ)
 over at bytes None = None
-over at bytes (Some old) = cond (nat_le (at + length bytes) (length old)) (Some (take at old ++ bytes ++ drop (at + length bytes) old)) (Some old)
+over at bytes (Some old) =
+    cond (nat_le (at + length bytes) (length old))
+    (Some (take at old ++ bytes ++ drop (at + length bytes) old)) (Some old)
 
 abbrev pub put : Device → ℕ → List ℕ → Image → Image
 put d at bytes image e = cond (code e == code d) (over at bytes (image e)) (image e)
@@ -65,11 +67,36 @@ abbrev pub Comes : (Image → Type 0) → (Image → Image → Type 0) → Image
 Comes left step image = (before : Image) × left before × step before image
 
 abbrev pub after : Call → Shape → Shape
-after (Wrote r) s = record { seen = put r.device r.at r.bytes.items s.seen; left = Comes s.left (Torn r.device r.at (length r.bytes.items)); said = s.said }
-after (Tore r) s = record { seen = s.seen; left = Comes s.left (Torn r.device r.at (length r.bytes.items)); said = s.said }
-after (Synced d) s = record { seen = s.seen; left = λ image. s.left image × (image d ≡ s.seen d); said = s.said }
-after (Made d pages) s = record { seen = with_device d (Some (zeros pages)) s.seen; left = Comes s.left (λ old new. Agree (with_device d (Some (zeros pages)) old) new); said = s.said }
-after (Removed d) s = record { seen = with_device d None s.seen; left = Comes s.left (λ old new. Agree (with_device d None old) new); said = s.said }
+after (Wrote r) s =
+    record {
+      seen = put r.device r.at r.bytes.items s.seen;
+      left = Comes s.left
+          (Torn r.device r.at (length r.bytes.items));
+      said = s.said;
+    }
+after (Tore r) s =
+    record {
+      seen = s.seen;
+      left = Comes s.left (Torn r.device r.at (length r.bytes.items));
+      said =
+          s.said;
+    }
+after (Synced d) s =
+    record { seen = s.seen; left = λ image. s.left image × (image d ≡ s.seen d); said = s.said }
+after (Made d pages) s =
+    record {
+      seen = with_device d (Some (zeros pages)) s.seen;
+      left = Comes s.left
+          (λ old new. Agree (with_device d (Some (zeros pages)) old) new);
+      said = s.said;
+    }
+after (Removed d) s =
+    record {
+      seen = with_device d None s.seen;
+      left = Comes s.left
+          (λ old new. Agree (with_device d None old) new);
+      said = s.said;
+    }
 after (Said text) s = record { seen = s.seen; left = s.left; said = s.said ++ text.items }
 after Idle s = s
 
@@ -112,18 +139,24 @@ abbrev pub by_digit : ℕ → Range → Image → Image
 by_digit n r image =
     cond (n == 0) image (
     cond (n == 1) (put r.device r.at r.bytes.items image) (
-    cond (n == 2) (put r.device r.at (replicate (length r.bytes.items) 79) image) (put r.device r.at (replicate (length r.bytes.items) 0) image)
+    cond (n == 2) (put r.device r.at (replicate (length r.bytes.items) 79) image)
+    (put r.device r.at (replicate (length r.bytes.items) 0) image)
     )
     )
 
--- The image after these calls, where k ranges that are not synced were met before: each such range holds what its
--- digit says, and all others what a read gives.
+-- The image after these calls, where k ranges that are not synced were met before: each such range
+-- holds what its digit says, and all others what a read gives.
 abbrev pub picked : ℕ → ℕ → List Call → Image → Image
 picked pick k [] image = image
-picked pick k (Wrote r ∷ calls) image = cond (settled calls r.device) (picked pick k calls (put r.device r.at r.bytes.items image)) (picked pick (k + 1) calls (by_digit (digit pick k) r image))
-picked pick k (Tore r ∷ calls) image = cond (settled calls r.device) (picked pick k calls image) (picked pick (k + 1) calls (by_digit (digit pick k) r image))
+picked pick k (Wrote r ∷ calls) image =
+    cond (settled calls r.device) (picked pick k calls (put r.device r.at r.bytes.items image))
+    (picked pick (k + 1) calls (by_digit (digit pick k) r image))
+picked pick k (Tore r ∷ calls) image =
+    cond (settled calls r.device) (picked pick k calls image)
+    (picked pick (k + 1) calls (by_digit (digit pick k) r image))
 picked pick k (Synced d ∷ calls) image = picked pick k calls image
-picked pick k (Made d pages ∷ calls) image = picked pick k calls (with_device d (Some (zeros pages)) image)
+picked pick k (Made d pages ∷ calls) image =
+    picked pick k calls (with_device d (Some (zeros pages)) image)
 picked pick k (Removed d ∷ calls) image = picked pick k calls (with_device d None image)
 picked pick k (Said text ∷ calls) image = picked pick k calls image
 picked pick k (Idle ∷ calls) image = picked pick k calls image
@@ -138,12 +171,15 @@ KeptOrNot old new call = (new ≡ old) ⊎ (new ≡ old ++ call ∷ [])
 
 -- a write that failed was kept, or nothing was
 abbrev pub ToreOrNot : List Call → List Call → Device → ℕ → List ℕ → Type 0
-ToreOrNot old new d at from = (new ≡ old) ⊎ ((r : Range) × RangeOf d at from r × (new ≡ old ++ Tore r ∷ []))
+ToreOrNot old new d at from =
+    (new ≡ old) ⊎ ((r : Range) × RangeOf d at from r × (new ≡ old ++ Tore r ∷ []))
 
 -- a text was kept, and put to the output
 abbrev pub SaidIs : List Call → List Call → List ℕ → List ℕ → List ℕ → Type 0
-SaidIs old new output output2 text = (v : Vec ℕ Global) × (v.items ≡ text) × (new ≡ old ++ Said v ∷ []) × (output2 ≡ output ++ text)
+SaidIs old new output output2 text =
+    (v : Vec ℕ Global) × (v.items ≡ text) × (new ≡ old ++ Said v ∷ []) × (output2 ≡ output ++ text)
 
 -- the same, or nothing was
 abbrev pub SaidOrNot : List Call → List Call → List ℕ → List ℕ → List ℕ → Type 0
-SaidOrNot old new output output2 text = ((new ≡ old) × (output2 ≡ output)) ⊎ SaidIs old new output output2 text
+SaidOrNot old new output output2 text =
+    ((new ≡ old) × (output2 ≡ output)) ⊎ SaidIs old new output output2 text

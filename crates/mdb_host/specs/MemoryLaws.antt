@@ -28,44 +28,82 @@ same_device a b = elim (cases_eq (code a) (code b)) [
   | inr other ↦ inr (λ is. other (ap code is))
 ]
 
-pub joined_length : (at : ℕ) (bytes old : List ℕ) → at + length bytes ≤ length old → length (take at old ++ bytes ++ drop (at + length bytes) old) ≡ length old
-joined_length at bytes old fits = omega (arith, length-append (take at old ++ bytes) (drop (at + length bytes) old), length-append (take at old) bytes, length-take at old, length-drop (at + length bytes) old)
+pub joined_length : (at : ℕ) (bytes old : List ℕ) → at + length bytes ≤ length old
+    → length (take at old ++ bytes ++ drop (at + length bytes) old) ≡ length old
+joined_length at bytes old fits =
+    omega (
+      arith,
+      length-append (take at old
+          ++ bytes) (drop (at + length bytes) old),
+      length-append (take at old) bytes,
+      length-take at
+          old,
+      length-drop (at + length bytes) old,
+    )
 
-pub joined_outside : (at : ℕ) (bytes old : List ℕ) (k : ℕ) → at + length bytes ≤ length old → Outside at (length bytes) k → get_or (take at old ++ bytes ++ drop (at + length bytes) old) k 0 ≡ get_or old k 0
+pub joined_outside : (at : ℕ) (bytes old : List ℕ) (k : ℕ) → at + length bytes ≤ length old
+    → Outside at (length bytes) k → get_or (take at old ++ bytes
+    ++ drop (at + length bytes) old) k 0 ≡ get_or old k 0
 joined_outside at bytes old k fits (inl below) =
-    get_or_append_left (take at old ++ bytes) (drop (at + length bytes) old) 0 k (omega (arith, length-append (take at old) bytes, length-take at old))
-    ∙ get_or_append_left (take at old) bytes 0 k (omega (arith, length-take at old)) ∙ get_or-take at old k 0 below
+    get_or_append_left (take at old ++ bytes) (drop (at + length bytes) old) 0 k
+    (omega (arith, length-append (take at old) bytes, length-take at old))
+    ∙ get_or_append_left (take at old) bytes 0 k (omega (arith, length-take at old))
+    ∙ get_or-take at old k 0 below
 joined_outside at bytes old k fits (inr above) =
     let e : at + length bytes + (k - (at + length bytes)) ≡ k = omega arith in
-    get_or-append_right (take at old ++ bytes) (drop (at + length bytes) old) (at + length bytes) k 0 (omega (arith, length-append (take at old) bytes, length-take at old)) above
-    ∙ get_or-drop (at + length bytes) old (k - (at + length bytes)) 0 ∙ ap (λ (n : ℕ). get_or old n 0) e
+    get_or-append_right (take at old ++ bytes) (drop (at + length bytes) old) (at
+    + length bytes) k 0 (omega (arith, length-append (take at old) bytes, length-take at old))
+    above
+    ∙ get_or-drop (at + length bytes) old (k - (at + length bytes)) 0
+    ∙ ap (λ (n : ℕ). get_or old n 0) e
 
-pub over_size : (at : ℕ) (bytes : List ℕ) (o : Option (List ℕ)) → size_of (over at bytes o) ≡ size_of o
+pub over_size : (at : ℕ) (bytes : List ℕ) (o : Option (List ℕ))
+    → size_of (over at bytes o) ≡ size_of o
 over_size at bytes None = refl
-over_size at bytes (Some old) = cond_both (nat_le (at + length bytes) (length old)) (Some (take at old ++ bytes ++ drop (at + length bytes) old)) (Some old) (λ o. size_of o ≡ Some (length old)) (λ yes. ap (λ (n : ℕ). Some n) (joined_length at bytes old (leb-true _ _ yes))) (λ no. refl)
+over_size at bytes (Some old) =
+    cond_both (nat_le (at + length bytes) (length old))
+    (Some (take at old ++ bytes ++ drop (at + length bytes) old)) (Some old) (λ o. size_of o
+    ≡ Some (length old)) (λ yes. ap (λ (n : ℕ). Some n)
+    (joined_length at bytes old (leb-true _ _ yes))) (λ no. refl)
 
-pub over_outside : (at : ℕ) (bytes : List ℕ) (o : Option (List ℕ)) (k : ℕ) → Outside at (length bytes) k → byte_at (over at bytes o) k ≡ byte_at o k
+pub over_outside : (at : ℕ) (bytes : List ℕ) (o : Option (List ℕ)) (k : ℕ)
+    → Outside at (length bytes) k → byte_at (over at bytes o) k ≡ byte_at o k
 over_outside at bytes None k out = refl
-over_outside at bytes (Some old) k out = cond_both (nat_le (at + length bytes) (length old)) (Some (take at old ++ bytes ++ drop (at + length bytes) old)) (Some old) (λ o. byte_at o k ≡ get_or old k 0) (λ yes. joined_outside at bytes old k (leb-true _ _ yes) out) (λ no. refl)
+over_outside at bytes (Some old) k out =
+    cond_both (nat_le (at + length bytes) (length old))
+    (Some (take at old ++ bytes ++ drop (at + length bytes) old)) (Some old) (λ o. byte_at o k
+    ≡ get_or old k 0) (λ yes. joined_outside at bytes old k (leb-true _ _ yes) out) (λ no. refl)
 
-pub put_other : (d e : Device) (at : ℕ) (bytes : List ℕ) (image : Image) → (e ≡ d → ⊥) → put d at bytes image e ≡ image e
-put_other d e at bytes image other = cond-false (code e == code d) (over at bytes (image e)) (image e) (ne_eqb (code e) (code d) (λ is. other (code_is e d is)))
+pub put_other : (d e : Device) (at : ℕ) (bytes : List ℕ) (image : Image) → (e ≡ d → ⊥)
+    → put d at bytes image e ≡ image e
+put_other d e at bytes image other =
+    cond-false (code e == code d) (over at bytes (image e)) (image e)
+    (ne_eqb (code e) (code d) (λ is. other (code_is e d is)))
 
-pub put_here : (d : Device) (at : ℕ) (bytes : List ℕ) (image : Image) → put d at bytes image d ≡ over at bytes (image d)
-put_here d at bytes image = cond-true (code d == code d) (over at bytes (image d)) (image d) (eq-eqb (code d) (code d) refl)
+pub put_here : (d : Device) (at : ℕ) (bytes : List ℕ) (image : Image)
+    → put d at bytes image d ≡ over at bytes (image d)
+put_here d at bytes image =
+    cond-true (code d == code d) (over at bytes (image d)) (image d) (eq-eqb (code d) (code d) refl)
 
-pub with_other : (d e : Device) (now : Option (List ℕ)) (image : Image) → (e ≡ d → ⊥) → with_device d now image e ≡ image e
-with_other d e now image other = cond-false (code e == code d) now (image e) (ne_eqb (code e) (code d) (λ is. other (code_is e d is)))
+pub with_other : (d e : Device) (now : Option (List ℕ)) (image : Image) → (e ≡ d → ⊥)
+    → with_device d now image e ≡ image e
+with_other d e now image other =
+    cond-false (code e == code d) now (image e)
+    (ne_eqb (code e) (code d) (λ is. other (code_is e d is)))
 
-pub with_here : (d : Device) (now : Option (List ℕ)) (image : Image) → with_device d now image d ≡ now
+pub with_here : (d : Device) (now : Option (List ℕ)) (image : Image)
+    → with_device d now image d ≡ now
 with_here d now image = cond-true (code d == code d) now (image d) (eq-eqb (code d) (code d) refl)
 
 -- as many bytes over a place as the range has
-pub torn_put : (d : Device) (at n : ℕ) (bytes : List ℕ) (image : Image) → length bytes ≡ n → Torn d at n image (put d at bytes image)
+pub torn_put : (d : Device) (at n : ℕ) (bytes : List ℕ) (image : Image) → length bytes ≡ n
+    → Torn d at n image (put d at bytes image)
 torn_put d at n bytes image len = record {
   others = λ e other. put_other d e at bytes image other;
   size = ap size_of (put_here d at bytes image) ∙ over_size at bytes (image d);
-  outside = λ k out. ap (λ o. byte_at o k) (put_here d at bytes image) ∙ over_outside at bytes (image d) k (subst (λ (m : ℕ). Outside at m k) (sym len) out);
+  outside =
+      λ k out. ap (λ o. byte_at o k) (put_here d at bytes image)
+      ∙ over_outside at bytes (image d) k (subst (λ (m : ℕ). Outside at m k) (sym len) out);
 }
 
 pub torn_same : (d : Device) (at n : ℕ) (image : Image) → Torn d at n image image
@@ -78,33 +116,51 @@ torn_sizes d at n a b torn e = elim (same_device e d) [
 ]
 
 -- the same device made or removed in two images
-pub with_sizes : (d : Device) (now : Option (List ℕ)) (a b : Image) → SameSizes a b → SameSizes (with_device d now a) (with_device d now b)
+pub with_sizes : (d : Device) (now : Option (List ℕ)) (a b : Image) → SameSizes a b
+    → SameSizes (with_device d now a) (with_device d now b)
 with_sizes d now a b same e = elim (same_device e d) [
-  | inl is ↦ subst (λ (x : Device). size_of (with_device d now b x) ≡ size_of (with_device d now a x)) (sym is) (ap size_of (with_here d now b ∙ sym (with_here d now a)))
-  | inr other ↦ ap size_of (with_other d e now b other) ∙ same e ∙ ap size_of (sym (with_other d e now a other))
+  | inl is ↦ subst (λ (x : Device). size_of (with_device d now b x)
+      ≡ size_of (with_device d now a x)) (sym is)
+      (ap size_of (with_here d now b ∙ sym (with_here d now a)))
+  | inr other ↦ ap size_of (with_other d e now b other) ∙ same e
+      ∙ ap size_of (sym (with_other d e now a other))
 ]
 
 pub record Sound (s : Shape) : Type 0 where
   pub seen : s.left s.seen
   pub sizes : (image : Image) → s.left image → SameSizes s.seen image
 
-sound_with : (d : Device) (now : Option (List ℕ)) (seen : Image) (left : Image → Type 0) → ((image : Image) → left image → SameSizes seen image)
-    → (image : Image) (old : Image) → left old → Agree (with_device d now old) image → SameSizes (with_device d now seen) image
-sound_with d now seen left sizes image old was is e = ap size_of (is e) ∙ with_sizes d now seen old (sizes old was) e
+sound_with : (d : Device) (now : Option (List ℕ)) (seen : Image) (left : Image → Type 0)
+    → ((image : Image) → left image → SameSizes seen image)
+    → (image : Image) (old : Image) → left old → Agree (with_device d now old) image
+    → SameSizes (with_device d now seen) image
+sound_with d now seen left sizes image old was is e =
+    ap size_of (is e) ∙ with_sizes d now seen old (sizes old was) e
 
 pub sound_after : (call : Call) (s : Shape) → Sound s → Sound (after call s)
 sound_after (Wrote r) s sound = record {
-  seen = (s.seen, sound.seen, torn_put r.device r.at (length r.bytes.items) r.bytes.items s.seen refl);
-  sizes = λ image left e. torn_sizes r.device r.at (length r.bytes.items) left.0 image left.2 e ∙ sound.sizes left.0 left.1 e ∙ sym (torn_sizes r.device r.at (length r.bytes.items) s.seen (put r.device r.at r.bytes.items s.seen) (torn_put r.device r.at (length r.bytes.items) r.bytes.items s.seen refl) e);
+  seen =
+      (s.seen, sound.seen, torn_put r.device r.at (length r.bytes.items) r.bytes.items s.seen refl);
+  sizes =
+      λ image left e. torn_sizes r.device r.at (length r.bytes.items) left.0 image left.2 e
+      ∙ sound.sizes left.0 left.1 e ∙ sym
+      (torn_sizes r.device r.at (length r.bytes.items) s.seen
+      (put r.device r.at r.bytes.items s.seen)
+      (torn_put r.device r.at (length r.bytes.items) r.bytes.items s.seen refl) e);
 }
 sound_after (Tore r) s sound = record {
   seen = (s.seen, sound.seen, torn_same r.device r.at (length r.bytes.items) s.seen);
-  sizes = λ image left e. torn_sizes r.device r.at (length r.bytes.items) left.0 image left.2 e ∙ sound.sizes left.0 left.1 e;
+  sizes =
+      λ image left e. torn_sizes r.device r.at (length r.bytes.items) left.0 image left.2 e
+      ∙ sound.sizes left.0 left.1 e;
 }
-sound_after (Synced d) s sound = record { seen = (sound.seen, refl); sizes = λ image left. sound.sizes image left.0 }
+sound_after (Synced d) s sound =
+    record { seen = (sound.seen, refl); sizes = λ image left. sound.sizes image left.0 }
 sound_after (Made d pages) s sound = record {
   seen = (s.seen, sound.seen, λ e. refl);
-  sizes = λ image left. sound_with d (Some (zeros pages)) s.seen s.left sound.sizes image left.0 left.1 left.2;
+  sizes =
+      λ image left. sound_with d (Some (zeros pages)) s.seen s.left sound.sizes image left.0 left.1
+      left.2;
 }
 sound_after (Removed d) s sound = record {
   seen = (s.seen, sound.seen, λ e. refl);
@@ -120,8 +176,19 @@ sound_all (call ∷ calls) s sound = sound_all calls (after call s) (sound_after
 sound_first : (start : Image) → Sound (at_first start)
 sound_first start = record { seen = λ e. refl; sizes = λ image same e. ap size_of (same e) }
 
-pub left_now : (start : Image) (calls : List Call) → (disk_of start calls).may_leave (disk_of start calls).now (disk_of start calls).seen
-left_now start calls = (omega arith, subst (λ (l : List Call). (shape l (at_first start)).left (shape calls (at_first start)).seen) (sym (take_all (length calls) calls (omega arith))) (sound_all calls (at_first start) (sound_first start)).seen)
+pub left_now : (start : Image) (calls : List Call)
+    → (disk_of start calls).may_leave (disk_of start calls).now (disk_of start calls).seen
+left_now start calls = (
+  omega arith,
+  subst (λ (l : List Call). (shape l (at_first start)).left
+      (shape calls (at_first start)).seen) (sym (take_all (length calls) calls (omega arith)))
+      (sound_all calls (at_first start) (sound_first start)).seen,
+)
 
-pub sizes_now : (start : Image) (calls : List Call) (image : Image) → (disk_of start calls).may_leave (disk_of start calls).now image → SameSizes (disk_of start calls).seen image
-sizes_now start calls image left = (sound_all calls (at_first start) (sound_first start)).sizes image (subst (λ (l : List Call). (shape l (at_first start)).left image) (take_all (length calls) calls (omega arith)) left.1)
+pub sizes_now : (start : Image) (calls : List Call) (image : Image)
+    → (disk_of start calls).may_leave (disk_of start calls).now image
+    → SameSizes (disk_of start calls).seen image
+sizes_now start calls image left =
+    (sound_all calls (at_first start) (sound_first start)).sizes image
+    (subst (λ (l : List Call). (shape l (at_first start)).left image)
+    (take_all (length calls) calls (omega arith)) left.1)

@@ -6,7 +6,8 @@ use Rattle.mdb_model.specs.declared.fault.Device.TheVariants.{Data, Log, Medium}
 
 -- eight data volumes, the log volume, ninety-nine media
 abbrev pub device_at : ℕ → Device
-device_at place = cond (nat_lt place 8) (Data (place + 1)) (cond (place == 8) Log (Medium (place - 8)))
+device_at place =
+    cond (nat_lt place 8) (Data (place + 1)) (cond (place == 8) Log (Medium (place - 8)))
 
 -- it has a number of a database's device
 abbrev pub IsNamed : Device → Type 0

@@ -1,8 +1,8 @@
 -- What a source of bytes gives.
 use Rattle.std.specs.Prelude.{◌≡◌, ℕ, ◌<◌, ◌≤◌, List, [], length, take, drop, Option, Some, None, MatchOption}
 
--- n bytes were taken from the front of what was left, and stand at the front of the buffer. None are taken into a
--- buffer with room only where none are left
+-- n bytes were taken from the front of what was left, and stand at the front of the buffer. None
+-- are taken into a buffer with room only where none are left
 pub record Takes (n : ℕ) (old new into : List ℕ) : Type 0 where
   pub within : n ≤ length old
   pub taken : take n into ≡ take n old
@@ -11,4 +11,6 @@ pub record Takes (n : ℕ) (old new into : List ℕ) : Type 0 where
 
 -- the same where it is told what is left, and it stays untold where it is not
 abbrev pub TakesFrom : Option (List ℕ) → Option (List ℕ) → ℕ → List ℕ → Type 0
-TakesFrom old new n into = MatchOption old (new ≡ None) (λ left. (rest : List ℕ) × (new ≡ Some rest) × Takes n left rest into)
+TakesFrom old new n into =
+    MatchOption old (new ≡ None) (λ left. (rest : List ℕ) × (new ≡ Some rest)
+    × Takes n left rest into)

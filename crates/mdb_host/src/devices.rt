@@ -61,7 +61,8 @@ impl Devices {
     }
 
     pub fn copy(&self, alloc: Global) -> Result<Devices, AllocError>
-        ensures { IfOk result (λ devices. image_of devices.slots.items ≡ image_of self.now.slots.items) }
+        ensures { IfOk result (λ devices. image_of devices.slots.items
+            ≡ image_of self.now.slots.items) }
     {
         let mut slots = Vec::with_capacity(alloc, SLOTS)?;
         for slot in &self.slots {
@@ -82,7 +83,8 @@ impl Devices {
 
     pub fn read(&self, device: Device, at: u64, into: &mut [u8])
         requires { IsWithin (image_of self.now.slots.items) device at (length into.old) }
-        ensures { into.new ≡ take (length into.old) (drop at (bytes_of (image_of self.now.slots.items device))) }
+        ensures { into.new ≡ take (length into.old)
+            (drop at (bytes_of (image_of self.now.slots.items device))) }
     {
         if let Some(bytes) = &self.slots[slot_of(device)] {
             let at = at as usize;
@@ -91,7 +93,8 @@ impl Devices {
     }
 
     pub fn write(&mut self, device: Device, at: u64, from: &[u8])
-        ensures { image_of self.new.slots.items ≡ put device at from.now (image_of self.old.slots.items) }
+        ensures { image_of self.new.slots.items
+            ≡ put device at from.now (image_of self.old.slots.items) }
     {
         if let Some(bytes) = &mut self.slots[slot_of(device)] {
             write_over(bytes, at, from);
@@ -100,7 +103,8 @@ impl Devices {
 
     /// From now on a device holds these bytes, or is absent.
     pub fn set(&mut self, device: Device, bytes: Option<Vec<u8>>)
-        ensures { image_of self.new.slots.items ≡ with_device device (content bytes) (image_of self.old.slots.items) }
+        ensures { image_of self.new.slots.items
+            ≡ with_device device (content bytes) (image_of self.old.slots.items) }
     {
         self.slots[slot_of(device)] = bytes;
     }

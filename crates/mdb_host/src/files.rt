@@ -5,13 +5,14 @@ ghost use Rattle.mdb_host.specs.Disk.{Disk};
 use crate::faults::rise;
 use crate::folder::Folder;
 use crate::host::Host;
+use crate::lock::TryLock;
 use mdb_model::fault::{Device, Failed, Memory};
 use std::alloc::Global;
 use std::os::unix::fs::FileExt;
 use std::rt::Files;
 
-/// The files `data1.vol` to `data8.vol`, `log.vol` and `medium01.med` to `medium99.med` of a folder.
-/// It tells nothing of what they hold. After `new` it takes no memory.
+/// The files `data1.vol` to `data8.vol`, `log.vol` and `medium01.med` to `medium99.med` of a
+/// folder. It tells nothing of what they hold. After `new` it takes no memory.
 #[derive(Drop)]
 pub struct FileHost<'a, R: Files + Print> {
     rt: &'a R,
@@ -22,7 +23,7 @@ pub struct FileHost<'a, R: Files + Print> {
 
 impl<'a, R: Files + Print> FileHost<'a, R>
 where
-    R::File: FileExt,
+    R::File: FileExt + TryLock,
 {
     /// No file is looked at yet, and the folder may be absent.
     pub fn new(rt: &'a R, alloc: Global, folder: &str) -> Result<FileHost<'a, R>, Memory>
@@ -43,11 +44,17 @@ where
 
 impl<'a, R: Files + Print> Host for FileHost<'a, R>
 where
-    R::File: FileExt,
+    R::File: FileExt + TryLock,
 {
     ghost tells = { ⊥ };
 
-    ghost disk = { λ m. record { now = 0; seen = λ d. None; may_leave = λ t image. ⊥; said = λ t. [] } };
+    ghost disk = { λ m. record {
+      now = 0;
+      seen = λ d. None;
+      may_leave = λ t image. ⊥;
+      said = λ t.
+          [];
+    } };
 
     ghost faults = { λ m. m.faults };
 

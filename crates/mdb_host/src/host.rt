@@ -41,7 +41,8 @@ pub trait Host {
     /// The pages of a device, of 8,192 bytes each, or `None` where it is absent.
     fn size(&self, device: Device) -> Option<u64>
         ensures pages { tells → result ≡ pages_of ((disk self.now).seen device) }
-        ensures whole { tells → IfSome result (λ n. size_of ((disk self.now).seen device) ≡ Some (n * 8192)) };
+        ensures whole { tells → IfSome result (λ n. size_of ((disk self.now).seen device)
+            ≡ Some (n * 8192)) };
 
     /// Fills `into` from byte `at` of a device on.
     fn read(&mut self, device: Device, at: u64, into: &mut [u8]) -> Result<(), Failed>
@@ -58,7 +59,8 @@ pub trait Host {
     fn write(&mut self, device: Device, at: u64, from: &[u8]) -> Result<(), Failed>
         requires bounded { length from.now ≤ 8192 }
         requires within { tells → IsWithin (disk self.old).seen device at (length from.now) }
-        ensures calls { tells → Calls (disk self.old) (disk self.new) (Torn device at (length from.now)) }
+        ensures calls { tells → Calls (disk self.old) (disk self.new)
+            (Torn device at (length from.now)) }
         ensures written { OnOk result (tells → Has (disk self.new).seen device at from.now) }
         ensures tick { OnOk result (tells → (disk self.new).now ≡ (disk self.old).now + 1) }
         ensures cause { HasCause (faults self.old) (faults self.new) result }
@@ -77,7 +79,8 @@ pub trait Host {
     fn make(&mut self, device: Device, pages: u32) -> Result<(), Failed>
         requires { tells → (disk self.old).seen device ≡ None }
         ensures calls { tells → Calls (disk self.old) (disk self.new) (Made device (8192 * pages)) }
-        ensures made { OnOk result (tells → (disk self.new).seen device ≡ Some (replicate (8192 * pages) 0)) }
+        ensures made { OnOk result (tells
+            → (disk self.new).seen device ≡ Some (replicate (8192 * pages) 0)) }
         ensures tick { OnOk result (tells → (disk self.new).now ≡ (disk self.old).now + 1) }
         ensures cause { HasCause (faults self.old) (faults self.new) result }
         ensures say_faults { say_faults self.new ≡ say_faults self.old };
@@ -94,16 +97,20 @@ pub trait Host {
     /// Adds to the output, or a front part of it.
     fn say(&mut self, text: &[u8]) -> Result<(), Failed>
         ensures says { tells → Says (disk self.old) (disk self.new) text.now }
-        ensures said { OnOk result (tells → (disk self.new).said (disk self.new).now ≡ (disk self.old).said (disk self.old).now ++ text.now) }
+        ensures said { OnOk result (tells
+            → (disk self.new).said (disk self.new).now ≡ (disk self.old).said (disk self.old).now
+            ++ text.now) }
         ensures tick { OnOk result (tells → (disk self.new).now ≡ (disk self.old).now + 1) }
         ensures cause { HasCause (say_faults self.old) (say_faults self.new) result }
         ensures faults { faults self.new ≡ faults self.old };
 
     /// What a read gives is one of the images that a crash may leave now.
-    ghost seen_left: { (host : Self) → tells → (disk host).may_leave (disk host).now (disk host).seen };
+    ghost seen_left: { (host : Self) → tells
+        → (disk host).may_leave (disk host).now (disk host).seen };
 
     /// Each image has the sizes that `size` answers.
-    ghost sizes: { (host : Self) (image : Image) → tells → (disk host).may_leave (disk host).now image
+    ghost sizes: { (host : Self) (image : Image) → tells
+        → (disk host).may_leave (disk host).now image
         → SameSizes (disk host).seen image };
 }
 
@@ -111,9 +118,12 @@ pub trait Host {
 pub fn write_kept<H: Host>(host: &mut H, device: Device, at: u64, from: &[u8]) -> Result<(), Failed>
     requires bounded { length from.now ≤ 8192 }
     requires within { H.tells → IsWithin (H.disk host.old).seen device at (length from.now) }
-    ensures goes { H.tells → Goes (H.disk host.old) (H.disk host.new) (Torn device at (length from.now)) }
-    ensures seen { H.tells → Torn device at (length from.now) (H.disk host.old).seen (H.disk host.new).seen }
-    ensures kept { OnOk result (H.tells → (image : Image) → (H.disk host.new).may_leave (H.disk host.new).now image → Has image device at from.now) }
+    ensures goes { H.tells → Goes (H.disk host.old) (H.disk host.new)
+        (Torn device at (length from.now)) }
+    ensures seen { H.tells → Torn device at (length from.now) (H.disk host.old).seen
+        (H.disk host.new).seen }
+    ensures kept { OnOk result (H.tells → (image : Image)
+        → (H.disk host.new).may_leave (H.disk host.new).now image → Has image device at from.now) }
     ensures cause { HasCause (H.faults host.old) (H.faults host.new) result }
     ensures say_faults { H.say_faults host.new ≡ H.say_faults host.old }
 {

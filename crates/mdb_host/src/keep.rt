@@ -46,7 +46,8 @@ pub fn keep_text(
     alloc: Global,
     text: &[u8],
 ) -> Result<(), AllocError>
-    ensures kept { OnOk result (SaidIs calls.old.items calls.new.items output.old.items output.new.items text.now) }
+    ensures kept { OnOk result (SaidIs calls.old.items calls.new.items output.old.items
+        output.new.items text.now) }
     ensures calls { OnErr result (calls.new.items ≡ calls.old.items) }
     ensures output { OnErr result (output.new.items ≡ output.old.items) }
 {

@@ -1,4 +1,5 @@
-//! The outside: devices of bytes, an output and a script, with what a crash at any moment may leave of them.
+//! The outside: devices of bytes, an output and a script, with what a crash at any moment may leave
+//! of them.
 #![tactic(auto)]
 
 mod call;
@@ -8,6 +9,7 @@ mod files;
 mod folder;
 mod host;
 mod keep;
+mod lock;
 mod mem_source;
 mod memory;
 mod paths;
@@ -18,6 +20,7 @@ mod std_source;
 
 pub use files::FileHost;
 pub use host::{Host, write_kept};
+pub use lock::TryLock;
 pub use mdb_model::fault::{Device, Failed};
 pub use mem_source::MemSource;
 pub use memory::MemHost;

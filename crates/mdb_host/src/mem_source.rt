@@ -21,7 +21,7 @@ pub struct MemSource {
 }
 
 impl MemSource {
-    ghost use Rattle.mdb_host.specs.Pieces.{piece_of, fails_of};
+    ghost use Rattle.mdb_host.specs.Pieces.{piece_of, fails_of, calls_of};
 
     fn holding(
         alloc: Global,
@@ -30,10 +30,12 @@ impl MemSource {
         fails: &[u64],
     ) -> Result<MemSource, AllocError>
         requires { 1 ≤ piece }
-        ensures left { IfOk result (λ source. ⟦<MemSource as Source>⟧.left source ≡ Some bytes.now) }
+        ensures left { IfOk result (λ source. ⟦<MemSource as Source>⟧.left source
+            ≡ Some bytes.now) }
         ensures faults { IfOk result (λ source. ⟦<MemSource as Source>⟧.faults source ≡ 0) }
         ensures piece { IfOk result (λ source. piece_of source ≡ piece) }
         ensures fails { IfOk result (λ source. fails_of source ≡ fails.now) }
+        ensures calls { IfOk result (λ source. calls_of source ≡ 0) }
     {
         let bytes = Vec::from_slice(alloc, bytes)?;
         let plan = FaultPlan::new(alloc, fails)?;
@@ -55,10 +57,12 @@ impl MemSource {
         fails: &[u64],
     ) -> Result<MemSource, Memory>
         requires { 1 ≤ piece }
-        ensures left { IfOk result (λ source. ⟦<MemSource as Source>⟧.left source ≡ Some bytes.now) }
+        ensures left { IfOk result (λ source. ⟦<MemSource as Source>⟧.left source
+            ≡ Some bytes.now) }
         ensures faults { IfOk result (λ source. ⟦<MemSource as Source>⟧.faults source ≡ 0) }
         ensures piece { IfOk result (λ source. piece_of source ≡ piece) }
         ensures fails { IfOk result (λ source. fails_of source ≡ fails.now) }
+        ensures calls { IfOk result (λ source. calls_of source ≡ 0) }
     {
         match MemSource::holding(alloc, bytes, piece, fails) {
             Ok(source) => Ok(source),
@@ -68,11 +72,30 @@ impl MemSource {
 }
 
 impl Source for MemSource {
+    ghost use Rattle.std.specs.Prelude.{◌+◌, ◌-◌, ◌^◌, ◌↔◌, ◌==◌, min, IsErr, IsTrue, OnErr};
+    ghost use Rattle.std.specs.List.{list_any};
+    ghost use Rattle.mdb_model.specs.Causes.{HasCause};
+    ghost use Rattle.mdb_host.specs.Script.{TakesFrom};
+    ghost use Rattle.mdb_host.specs.Pieces.{left_of, faults_of, piece_of, fails_of, calls_of};
+
     ghost left = { λ m. Some (drop m.taken m.bytes.items) };
 
     ghost faults = { λ m. m.faults };
 
-    fn next(&mut self, into: &mut [u8]) -> Result<usize, Failed> {
+    /// The calls are counted, and those that are listed fail, and no others.
+    fn next(&mut self, into: &mut [u8]) -> Result<usize, Failed>
+        ensures bound { IfOk result (λ n. n ≤ length into.new) }
+        ensures taken { IfOk result
+            (λ n. TakesFrom (left_of self.old) (left_of self.new) n into.new) }
+        ensures kept { OnErr result (left_of self.new ≡ left_of self.old) }
+        ensures cause { HasCause (faults_of self.old) (faults_of self.new) result }
+        ensures piece { IfOk result (λ n. n ≤ piece_of self.old) }
+        ensures calls { calls_of self.new ≡ min (calls_of self.old + 1) (2 ^ 64 - 1) }
+        ensures fails { IsErr result
+            ↔ IsTrue (list_any (λ number. number == calls_of self.new) (fails_of self.old)) }
+        ensures same_piece { piece_of self.new ≡ piece_of self.old }
+        ensures same_fails { fails_of self.new ≡ fails_of self.old }
+    {
         if self.plan.is_due() {
             return Err(rise(&mut self.faults));
         }

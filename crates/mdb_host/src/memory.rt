@@ -29,7 +29,8 @@ pub struct MemHost {
     reads: u64,
     faults: u64,
     say_faults: u64,
-    ghost seen: { image_of held.slots.items ≡ (shape calls.items (at_first (image_of start.slots.items))).seen },
+    ghost seen: { image_of held.slots.items
+        ≡ (shape calls.items (at_first (image_of start.slots.items))).seen },
     ghost whole: { AllWhole (image_of start.slots.items) },
     ghost said: { output.items ≡ (shape calls.items (at_first (image_of start.slots.items))).said },
 }
@@ -38,7 +39,8 @@ impl MemHost {
     // A host that holds these devices, before its first call.
     fn holding(alloc: Global, held: Devices, fails: &[u64]) -> Result<MemHost, AllocError>
         requires { AllWhole (image_of held.slots.items) }
-        ensures fresh { IfOk result (λ host. IsFresh (⟦<MemHost as Host>⟧.disk host) (image_of held.slots.items)) }
+        ensures fresh { IfOk result (λ host. IsFresh (⟦<MemHost as Host>⟧.disk host)
+            (image_of held.slots.items)) }
         ensures fails { IfOk result (λ host. host.plan.fails.items ≡ fails.now) }
         ensures reads { IfOk result (λ host. host.reads ≡ 0) }
         ensures faults { IfOk result (λ host. ⟦<MemHost as Host>⟧.faults host ≡ 0) }
@@ -63,12 +65,13 @@ impl MemHost {
 impl MemHost {
     ghost use Rattle.mdb_host.specs.Picks.{image_at, reads_of, fails_of};
 
-    /// No device is there and nothing was said. `fails` lists the numbers, from 1 and over all calls
-    /// but `size`, of the calls that are to fail. Such a call is kept like others; a `write` then
-    /// leaves its range unsynced with the bytes that a read gave, a `say` adds the first half of its
-    /// text to the output, and every other call leaves what was.
+    /// No device is there and nothing was said. `fails` lists the numbers, from 1 and over all
+    /// calls but `size`, of the calls that are to fail. Such a call is kept like others; a `write`
+    /// then leaves its range unsynced with the bytes that a read gave, a `say` adds the first half
+    /// of its text to the output, and every other call leaves what was.
     pub fn new(alloc: Global, fails: &[u64]) -> Result<MemHost, Memory>
-        ensures fresh { IfOk result (λ host. IsFresh (⟦<MemHost as Host>⟧.disk host) (λ device. None)) }
+        ensures fresh { IfOk result (λ host. IsFresh (⟦<MemHost as Host>⟧.disk host)
+            (λ device. None)) }
         ensures fails { IfOk result (λ host. fails_of host ≡ fails.now) }
         ensures reads { IfOk result (λ host. reads_of host ≡ 0) }
         ensures faults { IfOk result (λ host. ⟦<MemHost as Host>⟧.faults host ≡ 0) }
@@ -86,22 +89,26 @@ impl MemHost {
     // The devices as a crash after the first calls leaves them.
     fn torn(&self, alloc: Global, at: u64, pick: u64) -> Result<Devices, AllocError>
         requires { at ≤ length self.now.calls.items }
-        ensures { IfOk result (λ devices. image_of devices.slots.items ≡ picked pick 0 (take at self.now.calls.items) (image_of self.now.start.slots.items)) }
+        ensures { IfOk result (λ devices. image_of devices.slots.items
+            ≡ picked pick 0 (take at self.now.calls.items) (image_of self.now.start.slots.items)) }
     {
         let mut devices = self.start.copy(alloc)?;
         replay(&mut devices, alloc, &self.calls[..at as usize], pick)?;
         Ok(devices)
     }
 
-    /// A host with no output and no call that is to fail, which holds what a crash at moment `at` may
-    /// leave. The k-th range, from 0 in order of writing, that was then unsynced on its device holds
-    /// by digit `k mod 32` of `pick` in base 4: 0 its old bytes, 1 its new bytes, 2 only 0x4F, 3 only
-    /// 0x00.
+    /// A host with no output and no call that is to fail, which holds what a crash at moment `at`
+    /// may leave. The k-th range, from 0 in order of writing, that was then unsynced on its device
+    /// holds by digit `k mod 32` of `pick` in base 4: 0 its old bytes, 1 its new bytes, 2 only
+    /// 0x4F, 3 only 0x00.
     pub fn image(&self, alloc: Global, at: u64, pick: u64) -> Result<MemHost, Memory>
         requires { at ≤ (⟦<MemHost as Host>⟧.disk self.now).now }
-        ensures left { IfOk result (λ host. (⟦<MemHost as Host>⟧.disk self.now).may_leave at (⟦<MemHost as Host>⟧.disk host).seen) }
-        ensures exact { IfOk result (λ host. (⟦<MemHost as Host>⟧.disk host).seen ≡ image_at self.now at pick) }
-        ensures fresh { IfOk result (λ host. IsFresh (⟦<MemHost as Host>⟧.disk host) (⟦<MemHost as Host>⟧.disk host).seen) }
+        ensures left { IfOk result (λ host. (⟦<MemHost as Host>⟧.disk self.now).may_leave at
+            (⟦<MemHost as Host>⟧.disk host).seen) }
+        ensures exact { IfOk result (λ host. (⟦<MemHost as Host>⟧.disk host).seen
+            ≡ image_at self.now at pick) }
+        ensures fresh { IfOk result (λ host. IsFresh (⟦<MemHost as Host>⟧.disk host)
+            (⟦<MemHost as Host>⟧.disk host).seen) }
         ensures fails { IfOk result (λ host. fails_of host ≡ []) }
         ensures reads { IfOk result (λ host. reads_of host ≡ 0) }
         ensures faults { IfOk result (λ host. ⟦<MemHost as Host>⟧.faults host ≡ 0) }
@@ -118,7 +125,8 @@ impl MemHost {
 
     /// What was said.
     pub fn output(&self) -> &[u8]
-        ensures { result.now ≡ (⟦<MemHost as Host>⟧.disk self.now).said (⟦<MemHost as Host>⟧.disk self.now).now }
+        ensures { result.now ≡ (⟦<MemHost as Host>⟧.disk self.now).said
+            (⟦<MemHost as Host>⟧.disk self.now).now }
     {
         &self.output
     }
@@ -139,6 +147,22 @@ impl MemHost {
 }
 
 impl Host for MemHost {
+    ghost use Rattle.std.specs.Prelude.{◌+◌, ◌-◌, ◌*◌, ◌^◌, ◌++◌, Some, replicate, min, OnOk};
+    ghost use Rattle.mdb_model.specs.Causes.{HasCause};
+    ghost use Rattle.mdb_host.specs.Disk.{
+      Torn,
+      Has,
+      Agree,
+      Calls,
+      Says,
+      Made,
+      Removed,
+      Synced,
+      IsWithin,
+      IsThere,
+    };
+    ghost use Rattle.mdb_host.specs.Picks.{host_disk, host_faults, host_say_faults, reads_of};
+
     ghost tells = { Unit {0} };
 
     ghost disk = { λ m. disk_of (image_of m.start.slots.items) m.calls.items };
@@ -149,7 +173,8 @@ impl Host for MemHost {
 
     ghost seen_left = { λ m told. left_now (image_of m.start.slots.items) m.calls.items };
 
-    ghost sizes = { λ m image told left. sizes_now (image_of m.start.slots.items) m.calls.items image left };
+    ghost sizes = { λ m image told left. sizes_now (image_of m.start.slots.items) m.calls.items
+        image left };
 
     fn size(&self, device: Device) -> Option<u64> {
         match self.held.size(device) {
@@ -158,7 +183,16 @@ impl Host for MemHost {
         }
     }
 
-    fn read(&mut self, device: Device, at: u64, into: &mut [u8]) -> Result<(), Failed> {
+    fn read(&mut self, device: Device, at: u64, into: &mut [u8]) -> Result<(), Failed>
+        requires bounded { length into.old ≤ 8192 }
+        requires within { IsWithin (host_disk self.old).seen device at (length into.old) }
+        ensures bytes { OnOk result (Has (host_disk self.old).seen device at into.new) }
+        ensures calls { Calls (host_disk self.old) (host_disk self.new) Agree }
+        ensures tick { OnOk result ((host_disk self.new).now ≡ (host_disk self.old).now + 1) }
+        ensures cause { HasCause (host_faults self.old) (host_faults self.new) result }
+        ensures say_faults { host_say_faults self.new ≡ host_say_faults self.old }
+        ensures reads { reads_of self.new ≡ min (reads_of self.old + 1) (2 ^ 64 - 1) }
+    {
         self.reads = self.reads.saturating_add(1);
         if self.plan.is_due() {
             keep_idle(&mut self.calls);
@@ -171,7 +205,17 @@ impl Host for MemHost {
         Ok(())
     }
 
-    fn write(&mut self, device: Device, at: u64, from: &[u8]) -> Result<(), Failed> {
+    fn write(&mut self, device: Device, at: u64, from: &[u8]) -> Result<(), Failed>
+        requires bounded { length from.now ≤ 8192 }
+        requires within { IsWithin (host_disk self.old).seen device at (length from.now) }
+        ensures calls { Calls (host_disk self.old) (host_disk self.new)
+            (Torn device at (length from.now)) }
+        ensures written { OnOk result (Has (host_disk self.new).seen device at from.now) }
+        ensures tick { OnOk result ((host_disk self.new).now ≡ (host_disk self.old).now + 1) }
+        ensures cause { HasCause (host_faults self.old) (host_faults self.new) result }
+        ensures say_faults { host_say_faults self.new ≡ host_say_faults self.old }
+        ensures reads { reads_of self.new ≡ reads_of self.old }
+    {
         if self.plan.is_due() {
             keep_tear(&mut self.calls, self.alloc, device, at, from);
             return Err(rise(&mut self.faults));
@@ -186,7 +230,15 @@ impl Host for MemHost {
         Ok(())
     }
 
-    fn sync(&mut self, device: Device) -> Result<(), Failed> {
+    fn sync(&mut self, device: Device) -> Result<(), Failed>
+        requires { IsThere (host_disk self.old).seen device }
+        ensures calls { Calls (host_disk self.old) (host_disk self.new) Agree }
+        ensures synced { OnOk result (Synced (host_disk self.new) device) }
+        ensures tick { OnOk result ((host_disk self.new).now ≡ (host_disk self.old).now + 1) }
+        ensures cause { HasCause (host_faults self.old) (host_faults self.new) result }
+        ensures say_faults { host_say_faults self.new ≡ host_say_faults self.old }
+        ensures reads { reads_of self.new ≡ reads_of self.old }
+    {
         if self.plan.is_due() {
             keep_idle(&mut self.calls);
             return Err(rise(&mut self.faults));
@@ -197,7 +249,17 @@ impl Host for MemHost {
         Ok(())
     }
 
-    fn make(&mut self, device: Device, pages: u32) -> Result<(), Failed> {
+    fn make(&mut self, device: Device, pages: u32) -> Result<(), Failed>
+        requires { (host_disk self.old).seen device ≡ None }
+        ensures calls { Calls (host_disk self.old) (host_disk self.new)
+            (Made device (8192 * pages)) }
+        ensures made { OnOk result
+            ((host_disk self.new).seen device ≡ Some (replicate (8192 * pages) 0)) }
+        ensures tick { OnOk result ((host_disk self.new).now ≡ (host_disk self.old).now + 1) }
+        ensures cause { HasCause (host_faults self.old) (host_faults self.new) result }
+        ensures say_faults { host_say_faults self.new ≡ host_say_faults self.old }
+        ensures reads { reads_of self.new ≡ reads_of self.old }
+    {
         if self.plan.is_due() {
             keep_idle(&mut self.calls);
             return Err(rise(&mut self.faults));
@@ -212,7 +274,15 @@ impl Host for MemHost {
         Ok(())
     }
 
-    fn remove(&mut self, device: Device) -> Result<(), Failed> {
+    fn remove(&mut self, device: Device) -> Result<(), Failed>
+        requires { IsThere (host_disk self.old).seen device }
+        ensures calls { Calls (host_disk self.old) (host_disk self.new) (Removed device) }
+        ensures removed { OnOk result ((host_disk self.new).seen device ≡ None) }
+        ensures tick { OnOk result ((host_disk self.new).now ≡ (host_disk self.old).now + 1) }
+        ensures cause { HasCause (host_faults self.old) (host_faults self.new) result }
+        ensures say_faults { host_say_faults self.new ≡ host_say_faults self.old }
+        ensures reads { reads_of self.new ≡ reads_of self.old }
+    {
         if self.plan.is_due() {
             keep_idle(&mut self.calls);
             return Err(rise(&mut self.faults));
@@ -224,7 +294,15 @@ impl Host for MemHost {
         Ok(())
     }
 
-    fn say(&mut self, text: &[u8]) -> Result<(), Failed> {
+    fn say(&mut self, text: &[u8]) -> Result<(), Failed>
+        ensures says { Says (host_disk self.old) (host_disk self.new) text.now }
+        ensures said { OnOk result ((host_disk self.new).said (host_disk self.new).now
+            ≡ (host_disk self.old).said (host_disk self.old).now ++ text.now) }
+        ensures tick { OnOk result ((host_disk self.new).now ≡ (host_disk self.old).now + 1) }
+        ensures cause { HasCause (host_say_faults self.old) (host_say_faults self.new) result }
+        ensures faults { host_faults self.new ≡ host_faults self.old }
+        ensures reads { reads_of self.new ≡ reads_of self.old }
+    {
         if self.plan.is_due() {
             let front = &text[..text.len() / 2];
             keep_front(&mut self.calls, &mut self.output, self.alloc, front);

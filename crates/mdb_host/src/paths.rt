@@ -4,7 +4,6 @@ ghost use Rattle.mdb_host.specs.Places.{IsNamed, device_at};
 
 use mdb_model::fault::Device;
 use std::alloc::{AllocError, Global};
-use std::path::Path;
 
 /// Eight data volumes, the log volume and ninety-nine media.
 pub const PLACES: usize = 108;
@@ -13,7 +12,7 @@ pub const PLACES: usize = 108;
 #[derive(Drop)]
 pub struct Paths {
     pub folder: String,
-    /// The folder that it lies in.
+    /// The folder that it lies in, also where its path is `.` or ends with a slash.
     pub above: String,
     /// Where a file is written before it gets its own name.
     pub fresh: String,
@@ -49,14 +48,6 @@ fn path_of(alloc: Global, folder: &str, place: usize) -> Result<String, AllocErr
     }
 }
 
-fn above(folder: &str) -> &str {
-    match Path::new(folder).parent() {
-        Some(parent) if !parent.to_string_lossy().is_empty() => parent.to_string_lossy(),
-        Some(_) => ".",
-        None => "/",
-    }
-}
-
 impl Paths {
     pub fn new(alloc: Global, folder: &str) -> Result<Paths, AllocError> {
         let mut devices = Vec::with_capacity(alloc, PLACES)?;
@@ -65,7 +56,7 @@ impl Paths {
         }
         Ok(Paths {
             folder: String::from_str(alloc, folder)?,
-            above: String::from_str(alloc, above(folder))?,
+            above: format!(in alloc; "{folder}/..")?,
             fresh: format!(in alloc; "{folder}/device.new")?,
             devices,
         })

@@ -21,7 +21,8 @@ fn digit_of(pick: u64, ranges: usize) -> u64
 
 // What a crash left of a range that was not synced.
 fn tear(devices: &mut Devices, alloc: Global, range: &Range, digit: u64) -> Result<(), AllocError>
-    ensures { OnOk result (image_of devices.new.slots.items ≡ by_digit digit range.now (image_of devices.old.slots.items)) }
+    ensures { OnOk result (image_of devices.new.slots.items
+        ≡ by_digit digit range.now (image_of devices.old.slots.items)) }
 {
     let len = range.bytes.len();
     if digit == 0 {
@@ -47,7 +48,8 @@ fn call_again(
     ranges: usize,
 ) -> Result<usize, AllocError>
     requires { ranges < 2 ^ 63 }
-    ensures image { IfOk result (λ k. picked pick k later.now (image_of devices.new.slots.items) ≡ picked pick ranges (call.now ∷ later.now) (image_of devices.old.slots.items)) }
+    ensures image { IfOk result (λ k. picked pick k later.now (image_of devices.new.slots.items)
+        ≡ picked pick ranges (call.now ∷ later.now) (image_of devices.old.slots.items)) }
     ensures count { IfOk result (λ k. k ≤ ranges + 1) }
 {
     match call {
@@ -82,7 +84,8 @@ pub fn replay(
     pick: u64,
 ) -> Result<(), AllocError>
     requires { length calls.now < 2 ^ 63 }
-    ensures { OnOk result (image_of devices.new.slots.items ≡ picked pick 0 calls.now (image_of devices.old.slots.items)) }
+    ensures { OnOk result (image_of devices.new.slots.items
+        ≡ picked pick 0 calls.now (image_of devices.old.slots.items)) }
 {
     let mut ranges = 0;
     let mut left = calls;

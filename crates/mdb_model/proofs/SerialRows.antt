@@ -61,7 +61,7 @@ after_commit = refl
 read_after_commit : open_lines 2 run ≡ (ask two, found) ∷ []
 read_after_commit = refl
 
--- where memory is wanting they stay open, and where a device fails they end
+-- where memory runs out they stay open, and where a device fails they end
 kept_without_memory : open_lines 2 (run ++ taken (ask two) (refused MemoryWanting) ∷ []) ≡ (ask two, found) ∷ []
 kept_without_memory = refl
 

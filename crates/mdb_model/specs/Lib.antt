@@ -17,5 +17,6 @@ pub mod Runs
 pub mod Script
 pub mod Text
 pub mod Agreement
+pub mod Workload
 pub mod Serial
 pub mod Headline

@@ -7,4 +7,5 @@ Adds old new text = IfSome old (λ said. new ≡ Some (said ++ text))
 
 -- a front part of it is
 abbrev pub AddsPart : Option (List ℕ) → Option (List ℕ) → List ℕ → Type 0
-AddsPart old new text = IfSome old (λ said. (n : ℕ) × (n ≤ length text) × (new ≡ Some (said ++ take n text)))
+AddsPart old new text =
+    IfSome old (λ said. (n : ℕ) × (n ≤ length text) × (new ≡ Some (said ++ take n text)))

@@ -1,10 +1,12 @@
 -- Logical pages as plain data.
---     Page, PageMap      the bytes of a page with the number of the savepoint that wrote it last; the pages by number
+--     Page, PageMap      the bytes of a page with the number of the savepoint that wrote it last;
+--         the pages by number
 --     written_after      the pages that were written after a savepoint
 --     over      a map with some pages replaced and others gone
 --     SameBytes      two maps have the same pages, stamps aside
 --     committed      the rows of a map with each open change set back
---     PageReading      what the bytes of a page map mean, which the crate with the grammar of pages says
+--     PageReading      what the bytes of a page map mean, which the crate with the grammar of pages
+--         says
 use Rattle.std.specs.Prelude.{◌≡◌, ℕ, List, [], ◌∷◌, ◌++◌, nat_lt, Option, Some, None, filter, option_map, option_and_then}
 use Rattle.std.specs.Ordering.{nat_cmp}
 use Rattle.std.specs.FinMap.{FinMap, get, insert, remove, entries, from_entries, from_sorted}
@@ -20,20 +22,25 @@ PageMap = FinMap nat_cmp Page
 
 -- the pages with a stamp above a savepoint's number
 abbrev pub written_after : ℕ → PageMap → PageMap
-written_after savepoint pages = from_sorted (filter (λ e. nat_lt savepoint e.1.stamp) (entries pages))
+written_after savepoint pages =
+    from_sorted (filter (λ e. nat_lt savepoint e.1.stamp) (entries pages))
 
 -- the pages of a map whose numbers are in `live`, but those of `changed` in the place of theirs
 abbrev pub over : PageMap → PageMap → FinSet nat_cmp → PageMap
-over pages changed live = from_entries (entries changed ++ filter (λ e. contains live e.0) (entries pages))
+over pages changed live =
+    from_entries (entries changed ++ filter (λ e. contains live e.0) (entries pages))
 
 -- the same bytes under the same numbers
 abbrev pub SameBytes : PageMap → PageMap → Type 0
-SameBytes a b = (number : ℕ) → option_map (λ page. page.bytes) (get a number) ≡ option_map (λ page. page.bytes) (get b number)
+SameBytes a b =
+    (number : ℕ) → option_map (λ page. page.bytes) (get a number)
+    ≡ option_map (λ page. page.bytes) (get b number)
 
 pub record PageReading : Type 1 where
   -- the rows as they stand, or none where a key stands twice
   pub standing : PageMap → Option Tables
-  -- the row before, or none, of each key that an open transaction changed; none where a key stands twice
+  -- the row before, or none, of each key that an open transaction changed; none where a key stands
+  -- twice
   pub before_images : PageMap → Option (FinMap place_cmp (Option (List ℕ)))
   -- how many pages hold before images
   pub undo_pages : PageMap → ℕ
@@ -49,4 +56,5 @@ set_back ((place, Some value) ∷ images) tables = set_back images (insert table
 -- the committed rows: those that stand, with the before images set back
 abbrev pub committed : PageReading → PageMap → Option Tables
 committed reading pages =
-    option_and_then (λ rows. option_map (λ images. set_back (entries images) rows) (reading.before_images pages)) (reading.standing pages)
+    option_and_then (λ rows. option_map (λ images. set_back (entries images) rows)
+    (reading.before_images pages)) (reading.standing pages)

@@ -1,4 +1,5 @@
--- When a line is refused. Each cause has a definition; `refusal` gives the first in the stated order.
+-- When a line is refused. Each cause has a definition; `refusal` gives the first in the stated
+-- order.
 --     states_of      the states in which a line is admitted
 --     refusal_with      why a line is refused, if it is, before it makes a savepoint
 --     refusal      the same, with the lines that the program knows
@@ -89,13 +90,15 @@ lock_of _ = None
 -- the session whose changes grow by a line: a deletion of no visible row is no change
 abbrev pub changing_session : World → Command → Option ℕ
 changing_session w (PutRow session table key value) = Some session.0
-changing_session w (DelRow session table key) = if contains_key (visible w session.0) (table.0, key) then Some session.0 else None
+changing_session w (DelRow session table key) =
+    if contains_key (visible w session.0) (table.0, key) then Some session.0 else None
 changing_session w _ = None
 
 -- the blocks that a line has to leave free past what is needed after it
 abbrev pub reserve_of : World → Command → Option ℕ
 reserve_of w (PutRow session table key value) = Some 224
-reserve_of w (DelRow session table key) = option_map (λ session. 160) (changing_session w (DelRow session table key))
+reserve_of w (DelRow session table key) =
+    option_map (λ session. 160) (changing_session w (DelRow session table key))
 reserve_of w SnapshotCreate = Some 224
 reserve_of w (TaskBackup medium kind) = Some 224
 reserve_of w _ = None
@@ -107,7 +110,8 @@ backup_of (BackupStart medium kind) = Some (medium, kind)
 backup_of _ = None
 
 abbrev pub is_blank : World → ℕ → Bool
-is_blank w medium = not (is_busy w medium) && is_none (option_and_then (λ m. m.holds) (get w.media medium))
+is_blank w medium =
+    not (is_busy w medium) && is_none (option_and_then (λ m. m.holds) (get w.media medium))
 
 abbrev pub medium_pages : World → ℕ → ℕ
 medium_pages w medium = unwrap_or (option_map (λ m. m.pages) (get w.media medium)) 0
@@ -115,20 +119,24 @@ medium_pages w medium = unwrap_or (option_map (λ m. m.pages) (get w.media mediu
 -- the pages of a backup, its header and the set of page numbers included
 abbrev pub backup_pages : World → PageMap → BackupKind → ℕ
 backup_pages w pages (OfPages Complete) = 1 + len pages
-backup_pages w pages (OfPages Incremental) = 1 + ceil_div w.blocks 65000 + len (pages_to_copy w Incremental pages)
+backup_pages w pages (OfPages Incremental) =
+    1 + ceil_div w.blocks 65000 + len (pages_to_copy w Incremental pages)
 backup_pages w pages OfLog = 1 + ceil_div (unsaved w) 8192
 
 module _ (w : World) where
   -- 2: the line is not admitted in the present state
   abbrev pub wrong_state : Command → Option Refusal
-  wrong_state line = refuse_if (not (list_any (same_state w.state) (states_of line))) (WrongState w.state)
+  wrong_state line =
+      refuse_if (not (list_any (same_state w.state) (states_of line))) (WrongState w.state)
 
   -- 17: a savepoint task keeps other savepoint lines off, and any task keeps page backups off
   abbrev pub task_busy : Command → Option Refusal
   task_busy MakeSavepoint = refuse_if (is_some w.savepoint_task) TaskBusy
   task_busy TaskSavepoint = refuse_if (is_some w.savepoint_task) TaskBusy
-  task_busy (TaskBackup medium kind) = refuse_if (is_some w.savepoint_task || is_some w.backup_task) TaskBusy
-  task_busy (BackupStart medium (OfPages kind)) = refuse_if (is_some w.savepoint_task || is_some w.backup_task) TaskBusy
+  task_busy (TaskBackup medium kind) =
+      refuse_if (is_some w.savepoint_task || is_some w.backup_task) TaskBusy
+  task_busy (BackupStart medium (OfPages kind)) =
+      refuse_if (is_some w.savepoint_task || is_some w.backup_task) TaskBusy
   task_busy _ = None
 
   -- 18: a turn has no task
@@ -150,14 +158,18 @@ module _ (w : World) where
 
   -- 21: a restart or a recover from Offline meets a number past the end
   abbrev pub number_end : Facts → Command → Option Refusal
-  number_end facts DbAdmin = refuse_if (same_state w.state Offline && facts.record_past_end) NumberEnd
-  number_end facts DbOnline = refuse_if (same_state w.state Offline && facts.record_past_end) NumberEnd
-  number_end facts (Recover media log until) = refuse_if (same_state w.state Offline && facts.record_past_end) NumberEnd
+  number_end facts DbAdmin =
+      refuse_if (same_state w.state Offline && facts.record_past_end) NumberEnd
+  number_end facts DbOnline =
+      refuse_if (same_state w.state Offline && facts.record_past_end) NumberEnd
+  number_end facts (Recover media log until) =
+      refuse_if (same_state w.state Offline && facts.record_past_end) NumberEnd
   number_end facts _ = None
 
   -- 7: a medium is absent
   abbrev pub no_medium : Command → Option Refusal
-  no_medium line = refuse_if (list_any (λ medium. not (contains_key w.media medium)) (media_named line)) NoMedium
+  no_medium line =
+      refuse_if (list_any (λ medium. not (contains_key w.media medium)) (media_named line)) NoMedium
 
   -- 10: a medium to recover from is blank
   abbrev pub medium_empty : Command → Option Refusal
@@ -215,12 +227,15 @@ module _ (w : World) where
   -- 3: another session has a lock that conflicts with the line's
   abbrev pub is_locked : Command → Option Refusal
   is_locked line =
-      option_map (λ other. Locked (record { 0 = other })) (option_and_then (λ (wanted : ℕ × Lock). holder w wanted.0 wanted.1) (lock_of line))
+      option_map (λ other. Locked (record { 0 = other }))
+      (option_and_then (λ (wanted : ℕ × Lock). holder w wanted.0 wanted.1) (lock_of line))
 
   -- 5: the log that no backup holds would fill the log area
   abbrev pub log_full : Command → Option Refusal
   log_full (CommitWork session) =
-      refuse_if (has_changes w session.0 && nat_lt w.ring (unsaved w + group_bytes (net_changes (transaction w session.0).changes) + 1))
+      refuse_if (has_changes w session.0
+      && nat_lt w.ring (unsaved w + group_bytes (net_changes (transaction w session.0).changes)
+      + 1))
       (LogFull (unsaved w) w.ring)
   log_full _ = None
 
@@ -228,7 +243,8 @@ module _ (w : World) where
   abbrev pub medium_full : Facts → Command → Option Refusal
   medium_full facts line =
       option_and_then (λ (wanted : ℕ × BackupKind).
-      refuse_if (nat_lt (medium_pages w wanted.0) (backup_pages w facts.pages wanted.1)) (MediumFull (backup_pages w facts.pages wanted.1)))
+      refuse_if (nat_lt (medium_pages w wanted.0) (backup_pages w facts.pages wanted.1))
+      (MediumFull (backup_pages w facts.pages wanted.1)))
       (backup_of line)
 
 -- the bytes that a commit may have at most
@@ -240,7 +256,8 @@ module _ (reading : PageReading) (w : World) (facts : Facts) where
   abbrev pub too_large : Command → Option Refusal
   too_large line =
       option_and_then (λ session.
-      let bytes = group_bytes (net_changes (transaction (done reading w facts line).1 session).changes) in
+      let bytes = group_bytes (net_changes
+      (transaction (done reading w facts line).1 session).changes) in
       refuse_if (nat_lt (most_bytes w) bytes) (TransactionLarge bytes))
       (changing_session w line)
 
@@ -252,8 +269,8 @@ module _ (reading : PageReading) (w : World) (facts : Facts) where
       refuse_if (nat_lt w.blocks want) (DataFull want w.blocks))
       (reserve_of w line)
 
-  -- The first cause in the order of refusals, but for the last one, a medium that is full: it shows only once the
-  -- savepoint of the line is made. An area of rows in memory is never full.
+  -- The first cause in the order of refusals, but for the last one, a medium that is full: it shows
+  -- only once the savepoint of the line is made. An area of rows in memory is never full.
   abbrev pub refusal_with : (in_memory : Bool) → Command → Option Refusal
   refusal_with in_memory line = first_cause (
       wrong_state w line

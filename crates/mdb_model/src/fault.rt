@@ -1,7 +1,7 @@
 //! What can go wrong outside, and where.
 use thiserror::Error;
 
-/// Memory was wanting.
+/// Out of memory.
 #[derive(Clone, Copy, Debug, PartialEq, Eq)]
 pub struct Memory;
 
@@ -55,7 +55,7 @@ pub enum PageFault {
 /// Why something could not be opened.
 #[derive(Clone, Copy, Debug, PartialEq, Eq, Error)]
 pub enum OpenFault {
-    #[error("memory was wanting")]
+    #[error("out of memory")]
     Memory,
     #[error("a device failed")]
     Failed,

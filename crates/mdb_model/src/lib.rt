@@ -4,6 +4,7 @@
 pub mod bytes;
 pub mod change;
 pub mod fault;
+pub mod limits;
 pub mod name;
 pub mod say;
 pub mod script;

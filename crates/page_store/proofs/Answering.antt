@@ -1,6 +1,6 @@
 -- What tests of blocks say.
 use Rattle.std.proofs.Common.{◌≡◌, ◌⊎◌, inl, inr, ℕ, suc, ◌<◌, List, [], ◌∷◌, length, get_or, Bool, true, false, ◌==◌, ◌||◌, refl, ap, sym, subst, ◌∙◌, arith, eq-eqb, eqb→eq, T}
-use Rattle.std.specs.Prelude.{IsTrue}
+use Rattle.std.specs.Prelude.{IsTrue, IsErrAnd, IfErr, OnErr, Result, Ok, Err}
 use Rattle.std.specs.List.{list_any}
 use Rattle.std.proofs.lemmas.Bool.{cases_lt, false≢true}
 use Rattle.std.proofs.lemmas.List.{get_or_past}
@@ -71,3 +71,15 @@ not_true false isnt = refl
 
 pub unmarked_false : (marks : List (List Bool)) (b : ℕ) (t : Bool) → t ≡ false → (IsMarked marks b → IsTrue t) → is_marked marks b ≡ false
 unmarked_false marks b t is told = not_true (is_marked marks b) (λ marked. false≢true (sym is ∙ told (marked_some marks b marked)))
+
+-- what holds of a fault that is passed on is on the error of the answer
+pub on_passed : {U E P : Type 0} (fault : E) (answer : Result U E)
+    → IsErrAnd answer (λ passed. passed ≡ fault) → P → OnErr answer P
+on_passed fault (Ok value) is holds = absurd is
+on_passed fault (Err passed) is holds = holds
+
+-- what holds of a fault holds of the answer that passes it on
+pub if_passed : {U E : Type 0} (P : E → Type 0) (fault : E) (answer : Result U E)
+    → IsErrAnd answer (λ passed. passed ≡ fault) → P fault → IfErr answer P
+if_passed P fault (Ok value) is holds = absurd is
+if_passed P fault (Err passed) is holds = subst P (sym is) holds

@@ -79,7 +79,7 @@ module _ (s : Store) (store : IsStore s) (m : List ConverterEntry) (is : s.pinne
       un.taken of.2.0 (there m of.2.0 some) some (subst (λ (x : ℕ). HasMark marks x 0) (sym of.2.1) has)
 
   module _ (free : List Bool) (gives : GivesThese m (length m) s.maps marks s.free free) where
-    -- a block that was given free had a mark
+    -- a block that was freed had a mark
     pub was_marked : (b : ℕ) → IsFree free b → IsFree s.free b ⊎ IsMarked s.marks b
     was_marked b now = elim (gives.only b now) [
       | inl before ↦ inl before

@@ -1,7 +1,8 @@
 -- The pages of a store as a finite map.
 --     pages_below, pages_of      the bytes of each live page
---     is_held, is_owned, paid_below, paid_pages      the live pages whose block is not kept
-use Rattle.std.specs.Prelude.{ℕ, zero, suc, List, Bool, ◌==◌, ◌&&◌, ◌||◌, not, nat_lt, if◌then◌else◌}
+--     is_held, is_owned, paid_pages      the live pages whose block is not kept
+use Rattle.std.specs.Prelude.{ℕ, ◌==◌, ◌&&◌, ◌||◌, if◌then◌else◌}
+use Rattle.std.specs.Prelude.{zero, suc, List, Bool, not, nat_lt}
 use Rattle.std.specs.List.{list_any}
 use Rattle.std.specs.FinMap.{empty, insert}
 use Rattle.std.specs.FinSet as set
@@ -13,7 +14,8 @@ use Rattle.page_store.specs.Store.{Store, blocks_of, page_block, bytes_of, is_ma
 -- the pages below n that live, with their bytes
 abbrev pub pages_below : (lives : ℕ → Bool) (bytes : ℕ → List ℕ) → ℕ → PageBytes
 pages_below lives bytes zero = empty
-pages_below lives bytes (suc n) = if lives n then insert (pages_below lives bytes n) n (bytes n) else pages_below lives bytes n
+pages_below lives bytes (suc n) =
+    if lives n then insert (pages_below lives bytes n) n (bytes n) else pages_below lives bytes n
 
 -- the page lives
 abbrev pub lives_in : Store → ℕ → Bool
@@ -21,7 +23,8 @@ lives_in s page = nat_lt 0 (page_block s page)
 
 -- the bytes of each live page: what stands on its block
 abbrev pub pages_of : Store → Image → PageBytes
-pages_of s seen = pages_below (lives_in s) (λ page. bytes_of s seen (page_block s page)) (blocks_of s)
+pages_of s seen =
+    pages_below (lives_in s) (λ page. bytes_of s seen (page_block s page)) (blocks_of s)
 
 -- the map has this block
 abbrev pub has_block : List ConverterEntry → ℕ → Bool
@@ -38,7 +41,8 @@ is_owned s page = lives_in s page && not (is_held s (page_block s page))
 -- the pages below n that pass a test
 abbrev pub numbers_below : (test : ℕ → Bool) → ℕ → PaidPages
 numbers_below test zero = set.empty
-numbers_below test (suc n) = if test n then set.insert (numbers_below test n) n else numbers_below test n
+numbers_below test (suc n) =
+    if test n then set.insert (numbers_below test n) n else numbers_below test n
 
 -- the pages to which a write needs no new block
 abbrev pub paid_pages : Store → PaidPages

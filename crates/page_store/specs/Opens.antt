@@ -1,14 +1,16 @@
 -- What opening a store answers.
 --     FreesUnused      which blocks are free at first
 --     IsOpened      the store as it is opened
---     OpensTells, opening_fault      what a fault tells of the bytes
+--     OpensTells, opening_fault      what a fault says of the bytes
 --     own_pages      the pages of the converter
-use Rattle.std.specs.Prelude.{◌≡◌, ℕ, ◌+◌, ◌/◌, ◌<◌, List, Bool, false, length, replicate, sum, None}
+use Rattle.std.specs.Prelude.{◌≡◌, ℕ, ◌+◌, ◌/◌, ◌<◌}
+use Rattle.std.specs.Prelude.{List, Bool, false, length, replicate, sum, None}
 use Rattle.mdb_model.specs.declared.fault.Damage.{Damage}
 use Rattle.mdb_model.specs.declared.fault.OpenFault.{OpenFault}
 use Rattle.mdb_model.specs.declared.fault.OpenFault.TheVariants.{Memory, Failed, Damaged}
 use Rattle.mdb_model.specs.declared.fault.PageFault.{PageFault}
-use Rattle.mdb_model.specs.declared.fault.PageFault.TheVariants.{Failed as PageFailed, Damaged as PageDamaged}
+use Rattle.mdb_model.specs.declared.fault.PageFault.TheVariants.{Failed as PageFailed}
+use Rattle.mdb_model.specs.declared.fault.PageFault.TheVariants.{Damaged as PageDamaged}
 use Rattle.free_blocks.specs.Free.{IsFree}
 use Rattle.converter.specs.Maps.{Maps, IsUsed, empty_maps}
 use Rattle.page_store.specs.Store.{Store}
@@ -19,9 +21,12 @@ pub record FreesUnused (m : Maps) (blocks : ℕ) (flags : List Bool) : Type 0 wh
   pub unused : (b : ℕ) → IsFree flags b → (1 < b) × (b < blocks) × (IsUsed m b → ⊥)
   pub freed : (b : ℕ) → 1 < b → b < blocks → (IsUsed m b → ⊥) → IsFree flags b
 
--- The present map is that of the last savepoint. No block has a frame or a mark, and no map is pinned.
+-- The present map is that of the last savepoint. No block has a frame or a mark, and no map is
+-- pinned.
 pub record IsOpened (s : Store) (sizes : List ℕ) (savepoint : ℕ) : Type 0 where
-  pub maps : s.maps ≡ record (empty_maps (sum sizes) s.maps.owner) { present = s.maps.saved; saved = s.maps.saved }
+  pub maps : s.maps
+      ≡ record (empty_maps (sum sizes) s.maps.owner)
+      { present = s.maps.saved; saved = s.maps.saved }
   pub free : FreesUnused s.maps (sum sizes) s.free
   pub marks : s.marks ≡ replicate (sum sizes) (replicate 16 false)
   pub sizes_are : s.sizes ≡ sizes

@@ -1,7 +1,8 @@
 -- Calls one after the other.
 --     keeps_same, kept_on, keeps_on      of the kept maps
 --     may_before, keeps_itself, keeps_further      of the devices
-use Rattle.std.proofs.Common.{◌≡◌, inl, inr, ℕ, ◌+◌, List, Bool, true, false, refl, ap, sym, subst, ◌∙◌, arith}
+use Rattle.std.proofs.Common.{◌≡◌, ℕ, ◌+◌, ◌∙◌}
+use Rattle.std.proofs.Common.{inl, inr, List, Bool, true, false, refl, ap, sym, subst, arith}
 use Rattle.mdb_model.specs.Images.{Image}
 use Rattle.mdb_host.specs.Disk.{Disk}
 use Rattle.mdb_host.proofs.Moments.{stays, widen, onward}
@@ -14,7 +15,19 @@ use Rattle.page_store.specs.Store.{Store, frozen_block, has_changed, bytes_of}
 use Rattle.page_store.specs.Steps.{KeepsMaps, MayWrite, Keeps}
 
 pub keeps_same : (s : Store) → KeepsMaps s s
-keeps_same s = record { conv = refl; saved = refl; frozen = refl; frozen_at = refl; area = refl; marks = refl; sizes = refl; next = refl; pinned = refl; written = λ b kept is. is }
+keeps_same s =
+    record {
+      conv = refl;
+      saved = refl;
+      frozen = refl;
+      frozen_at = refl;
+      area = refl;
+      marks = refl;
+      sizes = refl;
+      next = refl;
+      pinned = refl;
+      written = λ b kept is. is;
+    }
 
 -- a block that a map keeps is kept still
 pub kept_on : (a b : Store) (x : ℕ) → KeepsMaps a b → IsKept a.maps x → IsKept b.maps x
@@ -45,12 +58,14 @@ pub may_before : (a b : Store) (x : ℕ) → KeepsMaps a b → MayWrite b x → 
 may_before a b x keeps may = record {
   high = may.high;
   unsaved = λ q is. may.unsaved q (ap (λ (l : List ConverterEntry). block_of l q) keeps.saved ∙ is);
-  unmarked = λ marked. may.unmarked (subst (λ (l : List (List Bool)). IsMarked l x) (sym keeps.marks) marked);
+  unmarked = λ marked.
+      may.unmarked (subst (λ (l : List (List Bool)). IsMarked l x) (sym keeps.marks) marked);
   unwritten = λ q is.
       elim (has_changed a x) as (λ t. has_changed a x ≡ t → t ≡ true) [
         | true ↦ λ e. refl
         | false ↦ λ e.
-            sym (keeps.written x (q, inr is) e) ∙ may.unwritten q (ap (λ (l : List ConverterEntry). block_of l q) keeps.frozen ∙ is)
+            sym (keeps.written x (q, inr is) e)
+            ∙ may.unwritten q (ap (λ (l : List ConverterEntry). block_of l q) keeps.frozen ∙ is)
       ] refl;
 }
 
@@ -64,17 +79,27 @@ keeps_itself T s d = record {
   room = λ le. le;
 }
 
-pub keeps_further : (T : Type 0) (a b c : Store) (d0 d1 d2 : Disk) → Keeps T a b d0 d1 → Keeps T b c d1 d2 → Keeps T a c d0 d2
+pub keeps_further : (T : Type 0) (a b c : Store) (d0 d1 d2 : Disk) → Keeps T a b d0 d1
+    → Keeps T b c d1 d2 → Keeps T a c d0 d2
 keeps_further T a b c d0 d1 d2 one two =
     let wider : (x y : Image) → Writes b.sizes (MayWrite b) x y → Writes a.sizes (MayWrite a) x y =
-    λ x y w. writes_more a.sizes (MayWrite b) (MayWrite a) x y (λ k may. may_before a b k one.maps may) (subst (λ (l : List ℕ). Writes l (MayWrite b) x y) one.maps.sizes w) in
+    λ x y w. writes_more a.sizes (MayWrite b) (MayWrite a) x y
+    (λ k may. may_before a b k one.maps may)
+    (subst (λ (l : List ℕ). Writes l (MayWrite b) x y) one.maps.sizes w) in
     record {
       maps = keeps_on a b c one.maps two.maps;
-      goes = λ told. onward d0 d1 d2 (Writes a.sizes (MayWrite a)) (writes_on a.sizes (MayWrite a)) (one.goes told) (widen d1 d2 _ _ (two.goes told) (λ x y left w. wider x y w));
-      seen = λ told. writes_on a.sizes (MayWrite a) d0.seen d1.seen d2.seen (one.seen told) (wider d1.seen d2.seen (two.seen told));
+      goes = λ told.
+          onward d0 d1 d2 (Writes a.sizes (MayWrite a)) (writes_on a.sizes (MayWrite a))
+          (one.goes told) (widen d1 d2 _ _ (two.goes told) (λ x y left w. wider x y w));
+      seen = λ told.
+          writes_on a.sizes (MayWrite a) d0.seen d1.seen d2.seen (one.seen told)
+          (wider d1.seen d2.seen (two.seen told));
       known = λ known. two.known (one.known known);
       bytes = λ known q some.
-          let e : frozen_block b q ≡ frozen_block a q = λ i. block_of (one.maps.frozen i) (one.maps.conv i + q) in
-          subst (λ (x : ℕ). bytes_of c d2.seen x ≡ bytes_of b d1.seen x) e (two.bytes (one.known known) q (omega (arith, e, some))) ∙ one.bytes known q some;
+          let e : frozen_block b q ≡ frozen_block a q =
+          λ i. block_of (one.maps.frozen i) (one.maps.conv i + q) in
+          subst (λ (x : ℕ). bytes_of c d2.seen x ≡ bytes_of b d1.seen x) e
+          (two.bytes (one.known known) q (omega (arith, e, some)))
+          ∙ one.bytes known q some;
       room = λ le. two.room (one.room le);
     }

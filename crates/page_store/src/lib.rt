@@ -9,8 +9,6 @@ mod owning;
 mod pins;
 mod savepoints;
 mod store;
-#[cfg(test)]
-mod tests;
 mod view;
 
 pub use laws::{last_savepoint_stays, pinned_pages_stay};

@@ -1,6 +1,9 @@
 //! Opening a store on the map of the last savepoint.
-ghost use Rattle.std.specs.Prelude.{◌≡◌, ◌≢◌, ◌⊎◌, ◌↔◌, ℕ, ◌+◌, ◌-◌, ◌<◌, ◌≤◌, ◌^◌, List, length, replicate, sum, Err, None, IfOk, IfErr, OnOk, OnErr, get_or, false};
+ghost use Rattle.std.specs.Prelude.{◌≡◌, ◌≢◌, ◌⊎◌, ◌↔◌, ℕ, ◌+◌, ◌-◌, ◌<◌, ◌≤◌, ◌^◌};
+ghost use Rattle.std.specs.Prelude.{List, length, replicate, sum, Err, None, IfOk, IfErr, OnOk};
+ghost use Rattle.std.specs.Prelude.{OnErr, get_or, false};
 ghost use Rattle.mdb_model.specs.Causes.{Rose};
+ghost use Rattle.mdb_model.specs.declared.limits.TheConstants.{MOST_BLOCKS};
 ghost use Rattle.mdb_model.specs.declared.fault.Damage.{Damage};
 ghost use Rattle.mdb_host.specs.Disk.{Goes, Agree};
 ghost use Rattle.free_blocks.specs.Free.{IsFree, free_count};
@@ -8,7 +11,8 @@ ghost use Rattle.volume_disk.specs.Blocks.{IsArea, block_at};
 ghost use Rattle.converter.specs.Maps.{Maps, IsSound, IsUsed, no_entry, empty_maps};
 ghost use Rattle.converter.specs.Loads.{IsRead, Breaks};
 ghost use Rattle.page_store.specs.Store.{Store, IsStore, blocks_of, IsKnown};
-ghost use Rattle.page_store.specs.Opens.{IsOpened, OpensTells, FreesUnused, own_pages, opening_fault};
+ghost use Rattle.page_store.specs.Opens.{IsOpened, OpensTells, FreesUnused, own_pages};
+ghost use Rattle.page_store.specs.Opens.{opening_fault};
 
 use crate::store::{FrameState, PageStore};
 use converter::{Converter, Entry};
@@ -16,6 +20,7 @@ use free_blocks::{FreeBlocks, Marks};
 use mdb_bytes::RestartRecord;
 use mdb_host::Host;
 use mdb_model::fault::{Memory, OpenFault, PageFault};
+use mdb_model::limits::PAGE_BYTES;
 use std::alloc::Global;
 use volume_disk::Volumes;
 
@@ -25,15 +30,16 @@ struct Room {
     converter: Converter,
     free: FreeBlocks,
     marks: Marks,
-    frames: Vec<[u8; 8192]>,
+    frames: Vec<[u8; PAGE_BYTES]>,
     states: Vec<FrameState>,
     pinned: Vec<Entry>,
 }
 
-// Takes all memory that a store of so many blocks uses.
+// Takes all memory that a store of n blocks uses.
 fn take_room(alloc: Global, blocks: u32) -> Result<Room, Memory>
     requires some { 0 < blocks }
-    requires bound { blocks ≤ 65536 }
+    requires bound { blocks ≤ MOST_BLOCKS }
+    // The result.
     ensures converter { IfOk result (λ r. r.converter ≡ empty_maps blocks (replicate blocks 0)) }
     ensures free { IfOk result (λ r. r.free ≡ replicate blocks false) }
     ensures marks { IfOk result (λ r. r.marks ≡ replicate blocks (replicate 16 false)) }
@@ -45,7 +51,7 @@ fn take_room(alloc: Global, blocks: u32) -> Result<Room, Memory>
     let free = FreeBlocks::new(alloc, blocks)?;
     let marks = Marks::new(alloc, blocks)?;
     let places = (converter.leaves() + 1 + blocks) as usize;
-    let Ok(frames) = vec![in alloc; [0u8; 8192]; blocks as usize] else {
+    let Ok(frames) = vec![in alloc; [0u8; PAGE_BYTES]; blocks as usize] else {
         return Err(Memory);
     };
     let Ok(states) = vec![in alloc; FrameState::Absent; blocks as usize] else {
@@ -88,27 +94,41 @@ fn of_opening(fault: PageFault) -> OpenFault
 }
 
 impl PageStore {
-    /// Opens the map that a restart record names: it is the present map and that of the last savepoint.
-    /// It takes all memory that the store will use, and reads no page. The record's root need not be one
-    /// of the area. After an error nothing is kept.
+    /// Opens the map that a restart record names: it is the present map and that of the last
+    /// savepoint. It takes all memory that the store will use, and reads no page. The record's root
+    /// need not be one of the area. After an error nothing is kept.
     pub fn open<H: Host>(
         alloc: Global,
         host: &mut H,
         rec: &RestartRecord,
     ) -> Result<PageStore, OpenFault>
         requires some { 0 < sum rec.now.volumes.items }
-        requires bound { sum rec.now.volumes.items ≤ 65536 }
+        requires bound { sum rec.now.volumes.items ≤ MOST_BLOCKS }
         requires number { rec.now.savepoint + 1 < 2 ^ 62 }
         requires there { H.tells → IsArea rec.now.volumes.items (H.disk host.old).seen }
         ensures opened { IfOk result (λ s. IsOpened s rec.now.volumes.items rec.now.savepoint) }
         ensures known { IfOk result (λ s. H.tells → IsKnown H.tells s (H.disk host.new).seen) }
-        ensures read { IfOk result (λ s. H.tells → IsRead s.maps.conv (blocks_of s) rec.now.root (block_at rec.now.volumes.items (H.disk host.old).seen) (s.maps.conv - 1) s.maps.saved) }
-        ensures whole { IfOk result (λ s. H.tells → (damage : Damage) → Breaks rec.now.volumes.items s.maps.conv (blocks_of s) rec.now.root (block_at rec.now.volumes.items (H.disk host.old).seen) damage → ⊥) }
-        ensures broken { IfErr result (OpensTells (λ damage. H.tells → Breaks rec.now.volumes.items (own_pages (sum rec.now.volumes.items)) (sum rec.now.volumes.items) rec.now.root (block_at rec.now.volumes.items (H.disk host.old).seen) damage)) }
+        ensures read { IfOk result
+            (λ s. H.tells
+            → IsRead s.maps.conv (blocks_of s) rec.now.root
+            (block_at rec.now.volumes.items (H.disk host.old).seen) (s.maps.conv - 1)
+            s.maps.saved) }
+        ensures whole { IfOk result
+            (λ s. H.tells → (damage : Damage)
+            → Breaks rec.now.volumes.items s.maps.conv (blocks_of s) rec.now.root
+            (block_at rec.now.volumes.items (H.disk host.old).seen) damage
+            → ⊥) }
+        ensures broken { IfErr result
+            (OpensTells
+            (λ damage. H.tells
+            → Breaks rec.now.volumes.items (own_pages (sum rec.now.volumes.items))
+            (sum rec.now.volumes.items) rec.now.root
+            (block_at rec.now.volumes.items (H.disk host.old).seen) damage)) }
         ensures calm { H.tells → Goes (H.disk host.old) (H.disk host.new) Agree }
         ensures seen { H.tells → Agree (H.disk host.old).seen (H.disk host.new).seen }
         ensures later { H.faults host.old ≤ H.faults host.new }
-        ensures cause { result ≡ Err OpenFault.Failed → Rose (H.faults host.old) (H.faults host.new) }
+        ensures cause { result ≡ Err OpenFault.Failed
+            → Rose (H.faults host.old) (H.faults host.new) }
         ensures say_faults { H.say_faults host.new ≡ H.say_faults host.old }
     {
         let volumes = Volumes::new(&rec.volumes);
@@ -129,6 +149,7 @@ impl PageStore {
             Err(fault) => return Err(of_opening(fault)),
         }
         free_unused(&mut free, &converter, blocks);
+        // Opens the invariant of the maps.
         let _leaves = converter.leaves();
         Ok(PageStore {
             volumes,

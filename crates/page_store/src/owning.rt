@@ -1,29 +1,36 @@
 //! Blocks of pages: a page whose block is kept moves to a free one before it is written.
-ghost use Rattle.std.specs.Prelude.{◌≡◌, ◌≢◌, ◌⊎◌, ℕ, ◌+◌, ◌<◌, ◌≤◌, List, Some, Err, MatchOption, IfOk, IfErr, OnOk, OnErr};
+ghost use Rattle.std.specs.Prelude.{◌≡◌, ◌≢◌, ◌⊎◌, ℕ, ◌+◌, ◌<◌, ◌≤◌};
+ghost use Rattle.std.specs.Prelude.{List, Some, Err, MatchOption, IfOk, IfErr, OnOk, OnErr};
 ghost use Rattle.mdb_model.specs.Causes.{Rose};
 ghost use Rattle.mdb_host.specs.Disk.{Goes, Agree};
 ghost use Rattle.volume_disk.specs.Blocks.{IsArea};
 ghost use Rattle.converter.specs.Maps.{Maps, IsSound};
 ghost use Rattle.free_blocks.specs.Free.{IsFree, free_count};
-ghost use Rattle.page_store.specs.Store.{Store, blocks_of, page_block, frame_of, Lives, IsHeld, IsStore, IsKnown, spare_of};
+ghost use Rattle.page_store.specs.Store.{Store, blocks_of, page_block, frame_of, Lives, IsHeld};
+ghost use Rattle.page_store.specs.Store.{IsStore, IsKnown, spare_of};
 ghost use Rattle.mdb_bytes.specs.Paged.{price};
 ghost use Rattle.page_store.specs.LogicalPages.{paid_pages};
-ghost use Rattle.page_store.specs.Steps.{ReadiesBoth, KeepsPages, moved_to, newer_at, without_page, given_block, Pays, GivesUp, MakesPage, Shows, Readies};
+ghost use Rattle.page_store.specs.Steps.{ReadiesBoth, KeepsPages, moved_to, newer_at, without_page};
+ghost use Rattle.page_store.specs.Steps.{given_block, Pays, GivesUp, MakesPage, Shows, Readies};
 
 use crate::store::{FrameState, PageStore};
 use converter::Entry;
 use mdb_host::Host;
 use mdb_model::fault::PageFault;
+use mdb_model::limits::PAGE_BYTES;
 
 impl PageStore {
-    // Puts a page on the least free block, with these bytes in its frame. Its block before, if it had one, is kept.
-    pub(crate) fn put_on_free(&mut self, page: u32, bytes: &[u8; 8192]) -> u32
+    // Puts a page on the least free block, with these bytes in its frame. Its block before, if it
+    // had one, is kept.
+    pub(crate) fn put_on_free(&mut self, page: u32, bytes: &[u8; PAGE_BYTES]) -> u32
         requires below { page < blocks_of self.old }
         requires spare { 0 < free_count self.old.free }
-        requires left { (page_block self.old page ≡ 0) ⊎ IsHeld self.old (page_block self.old page) }
+        requires left { (page_block self.old page ≡ 0)
+            ⊎ IsHeld self.old (page_block self.old page) }
         ensures free { IsFree self.old.free result }
         ensures put { self.new ≡ moved_to self.old page result bytes.now }
     {
+        // Opens the invariant of the store.
         let _blocks = self.blocks();
         let Some(b) = self.free.take() else {
             unreachable!()
@@ -48,15 +55,18 @@ impl PageStore {
         requires framed { (bytes : List ℕ) × (frame_of self.old b ≡ Some bytes) }
         ensures { self.new ≡ newer_at self.old b }
     {
+        // Opens the invariant of the store.
         let _blocks = self.blocks();
         let _page = page;
         self.states[b as usize] = FrameState::Changed;
     }
 
-    // Makes the frame of a page newer than its block, on a free block with the same bytes where its block is kept.
+    // Makes the frame of a page newer than its block, on a free block with the same bytes where its
+    // block is kept.
     pub(crate) fn pay(&mut self, page: u32) -> u32
         requires lives { Lives self.old page }
-        requires framed { (bytes : List ℕ) × (frame_of self.old (page_block self.old page) ≡ Some bytes) }
+        requires framed { (bytes : List ℕ)
+            × (frame_of self.old (page_block self.old page) ≡ Some bytes) }
         requires spare { IsHeld self.old (page_block self.old page) → 0 < free_count self.old.free }
         ensures { Pays self.old self.new page result }
     {
@@ -75,6 +85,7 @@ impl PageStore {
         requires held { IsHeld self.old (page_block self.old page) }
         ensures { self.new ≡ without_page self.old page }
     {
+        // Opens the invariant of the store.
         let _block = self.block_of(page);
         self.converter.clear(page);
     }
@@ -86,6 +97,7 @@ impl PageStore {
         requires owned { IsHeld self.old b → ⊥ }
         ensures { self.new ≡ given_block (without_page self.old page) b }
     {
+        // Opens the invariant of the store.
         let _block = self.block_of(page);
         self.converter.clear(page);
         self.states[b as usize] = FrameState::Absent;
@@ -121,7 +133,8 @@ impl PageStore {
         None
     }
 
-    // A dead page. There is one, as no page has one of the first two blocks, and each live page one of its own.
+    // A dead page. There is one, as no page has one of the first two blocks, and each live page one
+    // of its own.
     fn dead_page(&self) -> u32
         ensures below { result < blocks_of self.now }
         ensures dead { page_block self.now result ≡ 0 }
@@ -142,25 +155,27 @@ impl PageStore {
         ensures { MakesPage self.old self.new result }
     {
         let page = self.dead_page();
-        let _block = self.put_on_free(page, &[0; 8192]);
+        let _block = self.put_on_free(page, &[0; PAGE_BYTES]);
         self.search_from = page;
         page
     }
 
-    // Makes a page, and says what the pages are then.
+    // Makes a page. Its contract adds the invariants of the store before and after.
     pub(crate) fn make_new(&mut self) -> u32
         requires { 0 < free_count self.old.free }
         ensures made { MakesPage self.old self.new result }
         ensures sound { IsSound self.old.maps × IsSound self.new.maps }
         ensures store { IsStore self.old }
     {
+        // Opens the invariant of the store.
         let _before = self.blocks();
         let page = self.make_page();
+        // Opens the invariant of the store.
         let _after = self.blocks();
         page
     }
 
-    // Gives up a page, and says what the pages are then.
+    // Gives up a page. Its contract adds the invariants of the store before and after.
     pub(crate) fn make_free(&mut self, page: u32)
         requires { Lives self.old page }
         ensures given { GivesUp self.old self.new page }
@@ -168,60 +183,68 @@ impl PageStore {
         ensures store { IsStore self.old }
         ensures below { page < blocks_of self.old }
     {
+        // Opens the invariant of the store.
         let _block = self.block_of(page);
         self.give_up(page);
+        // Opens the invariant of the store.
         let _after = self.blocks();
     }
 
     // Fills the frame of a page's block.
     pub(crate) fn filled<H: Host>(&mut self, host: &mut H, page: u32) -> Result<u32, PageFault>
         requires { Lives self.old page }
-        ensures shows { IfOk result (λ b. Shows H.tells self.old self.new page b (H.disk host.old).seen) }
+        // The result.
+        ensures shows { IfOk result
+            (λ b. Shows H.tells self.old self.new page b (H.disk host.old).seen) }
         ensures store { OnOk result (IsStore self.new) }
         ensures err { OnErr result (self.new ≡ self.old) }
         ensures sound { IsSound self.old.maps }
         ensures page { page < blocks_of self.old }
+        // The devices.
         ensures calm { H.tells → Goes (H.disk host.old) (H.disk host.new) Agree }
         ensures seen { H.tells → Agree (H.disk host.old).seen (H.disk host.new).seen }
+        // The faults.
         ensures later { H.faults host.old ≤ H.faults host.new }
-        ensures cause { result ≡ Err PageFault.Failed → Rose (H.faults host.old) (H.faults host.new) }
-        ensures whole { H.tells → IsArea self.old.sizes (H.disk host.old).seen → IfErr result (λ fault. fault ≡ PageFault.Failed) }
+        ensures cause { result ≡ Err PageFault.Failed
+            → Rose (H.faults host.old) (H.faults host.new) }
+        ensures whole { H.tells → IsArea self.old.sizes (H.disk host.old).seen
+            → IfErr result (λ fault. fault ≡ PageFault.Failed) }
         ensures say_faults { H.say_faults host.new ≡ H.say_faults host.old }
     {
         let b = self.block_of(page);
-        match self.fill(host, b) {
-            Ok(()) => {
-                let _blocks = self.blocks();
-                Ok(b)
-            }
-            Err(fault) => Err(fault),
-        }
+        self.fill(host, b)?;
+        // Opens the invariant of the store.
+        let _blocks = self.blocks();
+        Ok(b)
     }
 
     // Gives a page a block of its own, and fills its frame, which is newer from then on.
     pub(crate) fn ready<H: Host>(&mut self, host: &mut H, page: u32) -> Result<u32, PageFault>
         requires lives { Lives self.old page }
         requires spare { IsHeld self.old (page_block self.old page) → 0 < free_count self.old.free }
-        ensures ready { IfOk result (λ b. Readies H.tells self.old self.new page b (H.disk host.old).seen) }
+        // The result.
+        ensures ready { IfOk result
+            (λ b. Readies H.tells self.old self.new page b (H.disk host.old).seen) }
         ensures store { OnOk result (IsStore self.new) }
         ensures err { OnErr result (self.new ≡ self.old) }
         ensures sound { IsSound self.old.maps }
         ensures page { page < blocks_of self.old }
+        // The devices.
         ensures calm { H.tells → Goes (H.disk host.old) (H.disk host.new) Agree }
         ensures seen { H.tells → Agree (H.disk host.old).seen (H.disk host.new).seen }
+        // The faults.
         ensures later { H.faults host.old ≤ H.faults host.new }
-        ensures cause { result ≡ Err PageFault.Failed → Rose (H.faults host.old) (H.faults host.new) }
-        ensures whole { H.tells → IsArea self.old.sizes (H.disk host.old).seen → IfErr result (λ fault. fault ≡ PageFault.Failed) }
+        ensures cause { result ≡ Err PageFault.Failed
+            → Rose (H.faults host.old) (H.faults host.new) }
+        ensures whole { H.tells → IsArea self.old.sizes (H.disk host.old).seen
+            → IfErr result (λ fault. fault ≡ PageFault.Failed) }
         ensures say_faults { H.say_faults host.new ≡ H.say_faults host.old }
     {
-        match self.filled(host, page) {
-            Ok(_) => {
-                let b = self.pay(page);
-                let _blocks = self.blocks();
-                Ok(b)
-            }
-            Err(fault) => Err(fault),
-        }
+        self.filled(host, page)?;
+        let b = self.pay(page);
+        // Opens the invariant of the store.
+        let _blocks = self.blocks();
+        Ok(b)
     }
 
     // The same of two pages.
@@ -233,26 +256,31 @@ impl PageStore {
     ) -> Result<(u32, u32), PageFault>
         requires lives { Lives self.old a × Lives self.old b }
         requires differ { a ≢ b }
-        requires room { price (paid_pages self.old) a + price (paid_pages self.old) b ≤ spare_of self.old }
-        ensures both { IfOk result (λ at. ReadiesBoth H.tells self.old self.new a b at.0 at.1 (H.disk host.old).seen) }
+        requires room { price (paid_pages self.old) a + price (paid_pages self.old) b
+            ≤ spare_of self.old }
+        // The result.
+        ensures both { IfOk result
+            (λ at. ReadiesBoth H.tells self.old self.new a b at.0 at.1 (H.disk host.old).seen) }
         ensures store { OnOk result (IsStore self.new) }
-        ensures kept { OnErr result (KeepsPages H.tells self.old self.new a (price (paid_pages self.old) a) (H.disk host.old).seen) }
+        ensures kept { OnErr result
+            (KeepsPages H.tells self.old self.new a (price (paid_pages self.old) a)
+            (H.disk host.old).seen) }
         ensures sound { IsSound self.old.maps }
+        // The devices.
         ensures calm { H.tells → Goes (H.disk host.old) (H.disk host.new) Agree }
         ensures seen { H.tells → Agree (H.disk host.old).seen (H.disk host.new).seen }
+        // The faults.
         ensures later { H.faults host.old ≤ H.faults host.new }
-        ensures cause { result ≡ Err PageFault.Failed → Rose (H.faults host.old) (H.faults host.new) }
-        ensures whole { IsKnown H.tells self.old (H.disk host.old).seen → IfErr result (λ fault. fault ≡ PageFault.Failed) }
+        ensures cause { result ≡ Err PageFault.Failed
+            → Rose (H.faults host.old) (H.faults host.new) }
+        ensures whole { IsKnown H.tells self.old (H.disk host.old).seen
+            → IfErr result (λ fault. fault ≡ PageFault.Failed) }
         ensures say_faults { H.say_faults host.new ≡ H.say_faults host.old }
     {
+        // Opens the invariant of the store.
         let _before = self.blocks();
-        let first = match self.ready(host, a) {
-            Ok(first) => first,
-            Err(fault) => return Err(fault),
-        };
-        match self.ready(host, b) {
-            Ok(second) => Ok((first, second)),
-            Err(fault) => Err(fault),
-        }
+        let first = self.ready(host, a)?;
+        let second = self.ready(host, b)?;
+        Ok((first, second))
     }
 }

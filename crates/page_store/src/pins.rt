@@ -1,7 +1,10 @@
 //! Pins: the map of a savepoint stays readable while later savepoints come.
-ghost use Rattle.std.specs.Prelude.{◌≡◌, ◌⊎◌, ◌↔◌, ℕ, ◌+◌, ◌<◌, ◌≤◌, List, Bool, length, slice_set, Some, None, Err, IsSome, IfSome, IsTrue, IfOk, IfErr, OnOk, if◌then◌else◌, nat_lt, ◌&&◌, true, false};
+ghost use Rattle.std.specs.Prelude.{◌≡◌, ◌⊎◌, ◌↔◌, ℕ, ◌+◌, ◌<◌, ◌≤◌, if◌then◌else◌, ◌&&◌};
+ghost use Rattle.std.specs.Prelude.{List, Bool, length, slice_set, Some, None, Err, IsSome, IfSome};
+ghost use Rattle.std.specs.Prelude.{IsTrue, IfOk, IfErr, OnOk, nat_lt, true, false};
 ghost use Rattle.mdb_model.specs.Causes.{Rose};
 ghost use Rattle.mdb_model.specs.Images.{Image};
+ghost use Rattle.mdb_model.specs.declared.limits.TheConstants.{MOST_BLOCKS};
 ghost use Rattle.mdb_host.specs.Disk.{Goes, Agree};
 ghost use Rattle.mdb_bytes.specs.declared.converter_pages.ConverterEntry.{ConverterEntry};
 ghost use Rattle.free_blocks.specs.Free.{IsFree};
@@ -9,7 +12,8 @@ ghost use Rattle.free_blocks.specs.Marked.{IsMarked, with_mark};
 ghost use Rattle.volume_disk.specs.Blocks.{IsArea, block_at};
 ghost use Rattle.converter.specs.Maps.{IsSound, IsUsed, block_of, entry_at};
 ghost use Rattle.page_store.specs.Store.{Store, IsStore, IsPinned, AreSixteen, blocks_of, Reads};
-ghost use Rattle.page_store.specs.Pins.{MarksAlso, UnmarksThese, GivesThese, is_newer_page, newer_below, IsAfter, IsNextPage, IsNewerFrom};
+ghost use Rattle.page_store.specs.Pins.{MarksAlso, UnmarksThese, GivesThese, is_newer_page};
+ghost use Rattle.page_store.specs.Pins.{newer_below, IsAfter, IsNextPage, IsNewerFrom};
 
 use crate::frames::read_there;
 use crate::store::PageStore;
@@ -17,6 +21,7 @@ use converter::{Converter, Entry};
 use free_blocks::{FreeBlocks, Marks};
 use mdb_host::Host;
 use mdb_model::fault::PageFault;
+use mdb_model::limits::PAGE_BYTES;
 
 /// The right to read the pinned map of a store.
 #[derive(Drop)]
@@ -28,7 +33,9 @@ fn keep_entry(marks: &mut Marks, room: &mut [Entry], converter: &Converter, plac
     requires long { length room.old ≡ converter.now.conv + length converter.now.owner }
     requires area { length marks.old ≡ length converter.now.owner }
     ensures room { room.new ≡ slice_set room.old place (entry_at converter.now.saved place) }
-    ensures marks { marks.new ≡ (if nat_lt 0 (block_of converter.now.saved place) then with_mark marks.old (block_of converter.now.saved place) 0 true else marks.old) }
+    ensures marks { marks.new
+        ≡ (if nat_lt 0 (block_of converter.now.saved place)
+        then with_mark marks.old (block_of converter.now.saved place) 0 true else marks.old) }
 {
     let entry = converter.saved_entry(place);
     room[place as usize] = entry;
@@ -43,8 +50,10 @@ fn keep_map(marks: &mut Marks, room: &mut [Entry], converter: &Converter)
     requires area { length marks.old ≡ length converter.now.owner }
     requires sixteen { AreSixteen marks.old }
     ensures map { room.new ≡ converter.now.saved }
-    ensures marks { MarksAlso converter.now.saved (converter.now.conv + length converter.now.owner) marks.old marks.new }
+    ensures marks { MarksAlso converter.now.saved (converter.now.conv + length converter.now.owner)
+        marks.old marks.new }
 {
+    // Opens the invariant of the maps.
     let _leaves = converter.leaves();
     for place in 0..room.len() as u32 {
         keep_entry(marks, room, converter, place);
@@ -64,13 +73,15 @@ fn unmark_map(marks: &mut Marks, map: &[Entry])
     }
 }
 
-// Gives a block free that no map has and that has no mark.
+// Frees a block that no map has and that has no mark.
 fn give_unused(free: &mut FreeBlocks, converter: &Converter, marks: &Marks, b: u32)
     requires some { 0 < b }
     requires below { b < length converter.now.owner }
-    requires area { (length free.old ≡ length converter.now.owner) × (length marks.now ≡ length converter.now.owner) }
+    requires area { (length free.old ≡ length converter.now.owner)
+        × (length marks.now ≡ length converter.now.owner) }
     requires taken { IsFree free.old b → ⊥ }
-    ensures given { (IsUsed converter.now b → ⊥) → (IsMarked marks.now b → ⊥) → free.new ≡ slice_set free.old b true }
+    ensures given { (IsUsed converter.now b → ⊥) → (IsMarked marks.now b → ⊥)
+        → free.new ≡ slice_set free.old b true }
     ensures kept { IsUsed converter.now b ⊎ IsMarked marks.now b → free.new ≡ free.old }
 {
     if converter.uses(b) {
@@ -82,12 +93,14 @@ fn give_unused(free: &mut FreeBlocks, converter: &Converter, marks: &Marks, b: u
     free.give(b);
 }
 
-// Gives the blocks of a map free that nothing has any more.
+// Frees the blocks of a map that nothing has any more.
 fn give_map(free: &mut FreeBlocks, converter: &Converter, marks: &Marks, map: &[Entry])
-    requires area { (length free.old ≡ length converter.now.owner) × (length marks.now ≡ length converter.now.owner) }
+    requires area { (length free.old ≡ length converter.now.owner)
+        × (length marks.now ≡ length converter.now.owner) }
     requires below { (q : ℕ) → block_of map.now q < length converter.now.owner }
     requires high { (q : ℕ) → 0 < block_of map.now q → 1 < block_of map.now q }
-    requires apart { (p q : ℕ) → 0 < block_of map.now p → block_of map.now p ≡ block_of map.now q → p ≡ q }
+    requires apart { (p q : ℕ) → 0 < block_of map.now p → block_of map.now p ≡ block_of map.now q
+        → p ≡ q }
     requires taken { (q : ℕ) → 0 < block_of map.now q → IsFree free.old (block_of map.now q) → ⊥ }
     ensures { GivesThese map.now (length map.now) converter.now marks.now free.old free.new }
 {
@@ -101,7 +114,7 @@ fn give_map(free: &mut FreeBlocks, converter: &Converter, marks: &Marks, map: &[
 // The number of the first page after this one.
 fn first_after(after: Option<u32>) -> u32
     ensures after { (page : ℕ) → IsAfter after page → result ≤ page }
-    ensures back { (page : ℕ) → page < 65536 → result ≤ page → IsAfter after page }
+    ensures back { (page : ℕ) → page < MOST_BLOCKS → result ≤ page → IsAfter after page }
 {
     match after {
         Some(page) => page.saturating_add(1),
@@ -117,14 +130,17 @@ fn is_newer(entry: Entry, base: u64) -> bool
 }
 
 impl PageStore {
-    /// Pins the map of the last savepoint: until it is given up, nothing is written to its blocks. It
-    /// calls no device and takes no memory.
+    /// Pins the map of the last savepoint: until it is given up, nothing is written to its blocks.
+    /// It calls no device and takes no memory.
     pub fn pin(&mut self) -> Pin
         requires { self.old.pinned ≡ None }
-        ensures same { self.new ≡ record self.old { marks = self.new.marks; pinned = Some self.old.maps.saved } }
-        ensures marks { IsPinned self.old.maps.conv (blocks_of self.old) self.new.marks self.old.maps.saved }
+        ensures same { self.new
+            ≡ record self.old { marks = self.new.marks; pinned = Some self.old.maps.saved } }
+        ensures marks { IsPinned self.old.maps.conv (blocks_of self.old) self.new.marks
+            self.old.maps.saved }
         ensures reads { (seen : Image) → Reads self.old seen → Reads self.new seen }
     {
+        // Opens the invariant of the store.
         let _blocks = self.blocks();
         keep_map(&mut self.marks, &mut self.pinned, &self.converter);
         self.is_pinned = true;
@@ -134,13 +150,16 @@ impl PageStore {
     /// Gives the pinned map up. The blocks that it alone had are free then.
     pub fn unpin(&mut self, pin: Pin)
         requires { IsSome self.old.pinned }
-        ensures same { self.new ≡ record self.old { marks = self.new.marks; free = self.new.free; pinned = None } }
+        ensures same { self.new
+            ≡ record self.old { marks = self.new.marks; free = self.new.free; pinned = None } }
         ensures marks { (b : ℕ) → IsMarked self.new.marks b → ⊥ }
         ensures free { (b : ℕ) → IsFree self.old.free b → IsFree self.new.free b }
-        ensures given { (b : ℕ) → IsFree self.new.free b → IsFree self.old.free b ⊎ IsMarked self.old.marks b }
+        ensures given { (b : ℕ) → IsFree self.new.free b
+            → IsFree self.old.free b ⊎ IsMarked self.old.marks b }
         ensures reads { (seen : Image) → Reads self.old seen → Reads self.new seen }
     {
         let _pin = pin;
+        // Opens the invariant of the store.
         let _blocks = self.blocks();
         unmark_map(&mut self.marks, &self.pinned);
         give_map(&mut self.free, &self.converter, &self.marks, &self.pinned);
@@ -150,9 +169,11 @@ impl PageStore {
     // The pinned entry of a page; one of no page where there is none.
     fn pinned_entry(&self, page: u32) -> Entry
         requires { IsSome self.now.pinned }
-        ensures entry { (m : List ConverterEntry) → self.now.pinned ≡ Some m → result ≡ entry_at m (self.now.maps.conv + page) }
+        ensures entry { (m : List ConverterEntry) → self.now.pinned ≡ Some m
+            → result ≡ entry_at m (self.now.maps.conv + page) }
         ensures below { result.block < blocks_of self.now }
     {
+        // Opens the invariant of the store.
         let _blocks = self.blocks();
         let own = self.converter.leaves() as usize + 1;
         match self.pinned.get(own + page as usize) {
@@ -164,16 +185,18 @@ impl PageStore {
     /// Whether the pinned map has a page.
     pub fn pin_lives(&self, _pin: &Pin, page: u32) -> bool
         requires { IsSome self.now.pinned }
-        ensures { (m : List ConverterEntry) → self.now.pinned ≡ Some m → IsTrue result ↔ (0 < block_of m (self.now.maps.conv + page)) }
+        ensures { (m : List ConverterEntry) → self.now.pinned ≡ Some m → IsTrue result
+            ↔ (0 < block_of m (self.now.maps.conv + page)) }
     {
         self.pinned_entry(page).block > 0
     }
 
-    /// How many pages of the pinned map were written after the savepoint of this number, 0 for all pages.
-    /// It calls no device.
+    /// How many pages of the pinned map were written after the savepoint of this number, 0 for all
+    /// pages. It calls no device.
     pub fn pin_count(&self, _pin: &Pin, base: u64) -> u32
         requires { IsSome self.now.pinned }
-        ensures { (m : List ConverterEntry) → self.now.pinned ≡ Some m → result ≡ newer_below m self.now.maps.conv base (blocks_of self.now) }
+        ensures { (m : List ConverterEntry) → self.now.pinned ≡ Some m
+            → result ≡ newer_below m self.now.maps.conv base (blocks_of self.now) }
     {
         let mut count = 0;
         for page in 0..self.blocks() {
@@ -187,8 +210,9 @@ impl PageStore {
     // The least page of the pinned map from this one on that was written after a savepoint.
     fn next_newer(&self, from: u32, base: u64) -> Option<u32>
         requires { IsSome self.now.pinned }
-        ensures found { (m : List ConverterEntry) → self.now.pinned ≡ Some m → IsNewerFrom m self.now.maps.conv base from result }
-        ensures small { IfSome result (λ page. page < 65536) }
+        ensures found { (m : List ConverterEntry) → self.now.pinned ≡ Some m
+            → IsNewerFrom m self.now.maps.conv base from result }
+        ensures small { IfSome result (λ page. page < MOST_BLOCKS) }
     {
         for page in from..self.blocks() {
             if is_newer(self.pinned_entry(page), base) {
@@ -207,19 +231,32 @@ impl PageStore {
         _pin: &Pin,
         after: Option<u32>,
         base: u64,
-        into: &mut [u8; 8192],
+        into: &mut [u8; PAGE_BYTES],
     ) -> Result<Option<u32>, PageFault>
         requires { IsSome self.old.pinned }
+        // The result.
         ensures same { self.new ≡ self.old }
-        ensures found { (m : List ConverterEntry) → self.old.pinned ≡ Some m → IfOk result (IsNextPage m self.old.maps.conv base after) }
-        ensures bytes { (m : List ConverterEntry) → self.old.pinned ≡ Some m → IfOk result (λ found. (page : ℕ) → found ≡ Some page → H.tells → IsArea self.old.sizes (H.disk host.old).seen → into.new ≡ block_at self.old.sizes (H.disk host.old).seen (block_of m (self.old.maps.conv + page))) }
+        ensures found { (m : List ConverterEntry) → self.old.pinned ≡ Some m
+            → IfOk result (IsNextPage m self.old.maps.conv base after) }
+        ensures bytes { (m : List ConverterEntry) → self.old.pinned ≡ Some m
+            → IfOk result
+            (λ found. (page : ℕ) → found ≡ Some page → H.tells
+            → IsArea self.old.sizes (H.disk host.old).seen
+            → into.new
+            ≡ block_at self.old.sizes (H.disk host.old).seen
+            (block_of m (self.old.maps.conv + page))) }
+        // The devices.
         ensures calm { H.tells → Goes (H.disk host.old) (H.disk host.new) Agree }
         ensures seen { H.tells → Agree (H.disk host.old).seen (H.disk host.new).seen }
+        // The faults.
         ensures later { H.faults host.old ≤ H.faults host.new }
-        ensures cause { result ≡ Err PageFault.Failed → Rose (H.faults host.old) (H.faults host.new) }
-        ensures whole { H.tells → IsArea self.old.sizes (H.disk host.old).seen → IfErr result (λ fault. fault ≡ PageFault.Failed) }
+        ensures cause { result ≡ Err PageFault.Failed
+            → Rose (H.faults host.old) (H.faults host.new) }
+        ensures whole { H.tells → IsArea self.old.sizes (H.disk host.old).seen
+            → IfErr result (λ fault. fault ≡ PageFault.Failed) }
         ensures say_faults { H.say_faults host.new ≡ H.say_faults host.old }
     {
+        // Opens the invariant of the store.
         let _blocks = self.blocks();
         let Some(page) = self.next_newer(first_after(after), base) else {
             return Ok(None);

@@ -1,5 +1,7 @@
 //! Savepoints of a store: the steps of the states, over what the store has itself.
-ghost use Rattle.std.specs.Prelude.{◌≡◌, ◌≢◌, ◌⊎◌, ℕ, ◌+◌, ◌-◌, ◌*◌, ◌<◌, ◌≤◌, ◌^◌, List, length, get_or, None, Some, Err, IsTrue, IfOk, IfErr, OnOk, OnErr, slice_set, true, false, if◌then◌else◌};
+ghost use Rattle.std.specs.Prelude.{◌≡◌, ◌≢◌, ◌⊎◌, ℕ, ◌+◌, ◌-◌, ◌*◌, ◌<◌, ◌≤◌, ◌^◌, if◌then◌else◌};
+ghost use Rattle.std.specs.Prelude.{List, length, get_or, None, Some, Err, IsTrue, IfOk, IfErr};
+ghost use Rattle.std.specs.Prelude.{OnOk, OnErr, slice_set, true, false};
 ghost use Rattle.mdb_model.specs.Causes.{Rose, HasCause};
 ghost use Rattle.mdb_model.specs.Images.{Image};
 ghost use Rattle.mdb_host.specs.Disk.{Goes, Agree, Calls, Arrives, IsWithin};
@@ -14,9 +16,12 @@ ghost use Rattle.volume_disk.specs.Blocks.{IsArea, Writes, block_at, IsSettled};
 ghost use Rattle.converter.specs.Maps.{Maps, IsSound, block_of, Leaves, Given, settled};
 ghost use Rattle.converter.specs.Tree.{HasTree};
 ghost use Rattle.converter.specs.Own.{OwnOnly, Fewer, Taken, SavedLeaves};
-ghost use Rattle.savepoint.specs.Stands.{restart_place, Stands, AtSwitch, IsPlaced, Holds, KeepsMaps as KeepsImages};
-ghost use Rattle.page_store.specs.Store.{Store, IsStore, blocks_of, frozen_block, frame_of, has_changed, bytes_of, Reads, IsKnown};
-ghost use Rattle.page_store.specs.Steps.{Keeps, Turned, frozen_now, TurnsPage, OwnAsSaved, is_unwritten, unwritten, unwritten_below, HasPages};
+ghost use Rattle.savepoint.specs.Stands.{restart_place, Stands, AtSwitch, IsPlaced, Holds};
+ghost use Rattle.savepoint.specs.Stands.{KeepsMaps as KeepsImages};
+ghost use Rattle.page_store.specs.Store.{Store, IsStore, blocks_of, frozen_block, frame_of};
+ghost use Rattle.page_store.specs.Store.{has_changed, bytes_of, Reads, IsKnown};
+ghost use Rattle.page_store.specs.Steps.{Keeps, Turned, frozen_now, TurnsPage, OwnAsSaved};
+ghost use Rattle.page_store.specs.Steps.{is_unwritten, unwritten, unwritten_below, HasPages};
 
 use crate::store::{FrameState, PageStore};
 use gate_slots::Slots;
@@ -26,18 +31,20 @@ use mdb_model::fault::PageFault;
 use savepoint::{ConverterWritten, Frozen, Mark, PagesWritten, Switched};
 
 impl PageStore {
-    /// Freezes the present map for a savepoint. A page that is written from then on has the number after
-    /// the savepoint's.
+    /// Freezes the present map for a savepoint. A page that is written from then on has the number
+    /// after the savepoint's.
     pub fn begin_savepoint(&mut self, mark: Mark) -> Frozen
         requires none { self.old.maps.frozen_at ≡ None }
         requires next { mark.savepoint ≡ self.old.next }
         requires small { mark.savepoint + 1 < 2 ^ 62 }
+        // The result.
         ensures mark { result.mark ≡ mark }
         ensures map { result.map.savepoint ≡ mark.savepoint }
         ensures frozen { self.new ≡ frozen_now self.old }
         ensures own { OwnAsSaved self.new.maps }
         ensures reads { (seen : Image) → Reads self.old seen → Reads self.new seen }
     {
+        // Opens the invariant of the store.
         let _blocks = self.blocks();
         let map = self.converter.freeze(mark.savepoint);
         self.next = mark.savepoint + 1;
@@ -49,20 +56,20 @@ impl PageStore {
         requires below { b < blocks_of self.old }
         requires changed { has_changed self.old b ≡ true }
         requires there { H.tells → IsArea self.old.sizes (H.disk host.old).seen }
-        ensures ok { OnOk result (self.new ≡ record self.old { changed = slice_set self.old.changed b false }) }
+        ensures ok { OnOk result
+            (self.new ≡ record self.old { changed = slice_set self.old.changed b false }) }
         ensures err { OnErr result (self.new ≡ self.old) }
-        ensures calls { H.tells → Calls (H.disk host.old) (H.disk host.new) (Writes self.old.sizes (λ c. c ≡ b)) }
-        ensures written { OnOk result (H.tells → frame_of self.old b ≡ Some (block_at self.old.sizes (H.disk host.new).seen b)) }
+        ensures calls { H.tells
+            → Calls (H.disk host.old) (H.disk host.new) (Writes self.old.sizes (λ c. c ≡ b)) }
+        ensures written { OnOk result
+            (H.tells
+            → frame_of self.old b ≡ Some (block_at self.old.sizes (H.disk host.new).seen b)) }
         ensures cause { HasCause (H.faults host.old) (H.faults host.new) result }
         ensures say_faults { H.say_faults host.new ≡ H.say_faults host.old }
     {
-        match self.volumes.write_block(host, b, &self.frames[b as usize]) {
-            Ok(()) => {
-                self.states[b as usize] = FrameState::Same;
-                Ok(())
-            }
-            Err(failed) => Err(failed),
-        }
+        self.volumes.write_block(host, b, &self.frames[b as usize])?;
+        self.states[b as usize] = FrameState::Same;
+        Ok(())
     }
 
     // Whether a block has a newer frame.
@@ -84,12 +91,13 @@ impl PageStore {
         ensures sound { IsSound self.now.maps }
         ensures store { IsStore self.now }
     {
+        // Opens the invariant of the store.
         let _blocks = self.blocks();
         self.converter.frozen_block(page)
     }
 
-    // Writes the frozen page of a number where it is not on its block yet and that may be done: how many
-    // were written, and how many are left.
+    // Writes the frozen page of a number where it is not on its block yet and that may be done: how
+    // many were written, and how many are left.
     fn turn_page<H: Host>(
         &mut self,
         host: &mut H,
@@ -98,11 +106,15 @@ impl PageStore {
     ) -> Result<(u32, u32), PageFault>
         requires below { page < blocks_of self.old }
         requires there { H.tells → IsArea self.old.sizes (H.disk host.old).seen }
-        ensures turns { TurnsPage H.tells self.old self.new (H.disk host.old) (H.disk host.new) page }
-        ensures done { IfOk result (λ r. r.0 + r.1 ≡ (if is_unwritten self.old page then 1 else 0)) }
+        // The result.
+        ensures turns { TurnsPage H.tells self.old self.new (H.disk host.old) (H.disk host.new)
+            page }
+        ensures done { IfOk result
+            (λ r. r.0 + r.1 ≡ (if is_unwritten self.old page then 1 else 0)) }
         ensures left { IfOk result (λ r. r.1 ≡ (if is_unwritten self.new page then 1 else 0)) }
         ensures all { IfOk result (λ r. may ≡ true → r.1 ≡ 0) }
         ensures none { IfOk result (λ r. may ≡ false → r.0 ≡ 0) }
+        // The faults.
         ensures cause { HasCause (H.faults host.old) (H.faults host.new) result }
         ensures fault { IfErr result (λ fault. fault ≡ PageFault.Failed) }
         ensures say_faults { H.say_faults host.new ≡ H.say_faults host.old }
@@ -120,16 +132,18 @@ impl PageStore {
         }
     }
 
-    /// Writes so many of the frozen pages that are not on their blocks yet, or all where fewer are left,
-    /// and answers how many are left then. They are on the devices for good after `pages_done`. After a
-    /// fault of a device some of them were written.
+    /// Writes `most` of the frozen pages that are not on their blocks yet, or all if fewer are
+    /// left, and answers how many are left then. They are durable after `pages_done`. After a fault
+    /// of a device some of them were written.
     pub fn turn_savepoint<H: Host>(&mut self, host: &mut H, most: u32) -> Result<u32, PageFault>
         requires { H.tells → IsArea self.old.sizes (H.disk host.old).seen }
+        // The result.
         ensures turned { Turned self.old self.new }
         ensures keeps { Keeps H.tells self.old self.new (H.disk host.old) (H.disk host.new) }
         ensures left { IfOk result (λ n. n ≡ unwritten self.old - most) }
         ensures now { IfOk result (λ n. unwritten self.new ≡ n) }
         ensures done { IfOk result (λ n. n ≡ 0 → (page : ℕ) → is_unwritten self.new page ≡ false) }
+        // The faults.
         ensures cause { HasCause (H.faults host.old) (H.faults host.new) result }
         ensures fault { IfErr result (λ fault. fault ≡ PageFault.Failed) }
         ensures say_faults { H.say_faults host.new ≡ H.say_faults host.old }
@@ -137,14 +151,11 @@ impl PageStore {
         let mut written = 0;
         let mut left = 0;
         for page in 0..self.blocks() {
-            match self.turn_page(host, page, written < most) {
-                Ok((done, kept)) => {
-                    written += done;
-                    left += kept;
-                }
-                Err(fault) => return Err(fault),
-            }
+            let (done, kept) = self.turn_page(host, page, written < most)?;
+            written += done;
+            left += kept;
         }
+        // Opens the invariant of the store.
         let _blocks = self.blocks();
         Ok(left)
     }
@@ -156,28 +167,34 @@ impl PageStore {
         state: Frozen,
     ) -> Result<PagesWritten, (Frozen, Failed)>
         requires { H.tells → IsArea self.old.sizes (H.disk host.old).seen }
+        // The result.
         ensures same { self.new ≡ self.old }
         ensures goes { H.tells → Goes (H.disk host.old) (H.disk host.new) Agree }
         ensures seen { H.tells → Agree (H.disk host.old).seen (H.disk host.new).seen }
         ensures settled { OnOk result (H.tells → IsSettled self.old.sizes (H.disk host.new)) }
-        ensures known { IsKnown H.tells self.old (H.disk host.old).seen → IsKnown H.tells self.new (H.disk host.new).seen }
+        ensures known { IsKnown H.tells self.old (H.disk host.old).seen
+            → IsKnown H.tells self.new (H.disk host.new).seen }
         // Each image has what stands on the frozen pages, where all of them were written.
-        ensures pages { OnOk
-            result
-            (IsKnown H.tells self.old (H.disk host.old).seen → ((page : ℕ) → is_unwritten self.old page ≡ false)
-            → (image : Image) → (H.disk host.new).may_leave (H.disk host.new).now image
-            → HasPages self.old.sizes self.old.maps.frozen self.old.maps.conv (λ page. bytes_of self.old (H.disk host.old).seen (frozen_block self.old page)) image) }
+        ensures pages { OnOk result
+            (IsKnown H.tells self.old (H.disk host.old).seen
+            → ((page : ℕ) → is_unwritten self.old page ≡ false) → (image : Image)
+            → (H.disk host.new).may_leave (H.disk host.new).now image
+            → HasPages self.old.sizes self.old.maps.frozen self.old.maps.conv
+            (λ page. bytes_of self.old (H.disk host.old).seen (frozen_block self.old page))
+            image) }
         ensures next { IfOk result (λ s. (s.map ≡ state.map) × (s.mark ≡ state.mark)) }
         ensures back { IfErr result (λ e. (e.0.map ≡ state.map) × (e.0.mark ≡ state.mark)) }
+        // The faults.
         ensures cause { HasCause (H.faults host.old) (H.faults host.new) result }
         ensures say_faults { H.say_faults host.new ≡ H.say_faults host.old }
     {
+        // Opens the invariant of the store.
         let _blocks = self.blocks();
         state.pages_done(host, &self.volumes)
     }
 
-    /// Writes the changed leaves and the root of the frozen map to free blocks, for good. After an error
-    /// some of these pages have new blocks, which may hold any bytes.
+    /// Writes the changed leaves and the root of the frozen map to free blocks, durably. After an
+    /// error some of these pages have new blocks, which may hold any bytes.
     pub fn write_converter<H: Host>(
         &mut self,
         host: &mut H,
@@ -187,30 +204,46 @@ impl PageStore {
         requires room { self.old.maps.conv ≤ free_count self.old.free }
         requires later { OwnAsSaved self.old.maps }
         requires there { H.tells → IsArea self.old.sizes (H.disk host.old).seen }
-        requires saved { H.tells → SavedLeaves self.old.maps (block_at self.old.sizes (H.disk host.old).seen) }
+        requires saved { H.tells
+            → SavedLeaves self.old.maps (block_at self.old.sizes (H.disk host.old).seen) }
+        // The result.
         ensures same { self.new ≡ record self.old { maps = self.new.maps; free = self.new.free } }
         ensures own { OwnOnly self.old.maps self.new.maps }
         ensures fewer { Fewer self.old.free self.new.free self.old.maps.conv }
-        ensures placed { OnOk result (IsPlaced self.old.sizes self.new.maps.frozen self.new.maps.conv) }
-        ensures next { IfOk result (λ s. (s.map ≡ state.map) × (s.mark ≡ state.mark) × (s.root ≡ block_of self.new.maps.frozen 0)) }
+        ensures placed { OnOk result
+            (IsPlaced self.old.sizes self.new.maps.frozen self.new.maps.conv) }
+        ensures next { IfOk result
+            (λ s. (s.map ≡ state.map) × (s.mark ≡ state.mark)
+            × (s.root ≡ block_of self.new.maps.frozen 0)) }
         ensures back { IfErr result (λ e. (e.0.map ≡ state.map) × (e.0.mark ≡ state.mark)) }
-        ensures goes { H.tells → Goes (H.disk host.old) (H.disk host.new) (Writes self.old.sizes (IsFree self.old.free)) }
-        ensures seen { H.tells → Writes self.old.sizes (IsFree self.old.free) (H.disk host.old).seen (H.disk host.new).seen }
-        ensures known { IsKnown H.tells self.old (H.disk host.old).seen → IsKnown H.tells self.new (H.disk host.new).seen }
-        ensures held { OnOk
-            result
-            (H.tells → (image : Image) → (H.disk host.new).may_leave (H.disk host.new).now image → HasTree self.new.maps.frozen self.new.maps.conv (block_at self.old.sizes image)) }
-        // Where each image has had what stands on the frozen pages, each holds the whole frozen map.
-        ensures holds { OnOk
-            result
+        ensures goes { H.tells
+            → Goes (H.disk host.old) (H.disk host.new)
+            (Writes self.old.sizes (IsFree self.old.free)) }
+        ensures seen { H.tells
+            → Writes self.old.sizes (IsFree self.old.free) (H.disk host.old).seen
+            (H.disk host.new).seen }
+        ensures known { IsKnown H.tells self.old (H.disk host.old).seen
+            → IsKnown H.tells self.new (H.disk host.new).seen }
+        ensures held { OnOk result
+            (H.tells → (image : Image) → (H.disk host.new).may_leave (H.disk host.new).now image
+            → HasTree self.new.maps.frozen self.new.maps.conv (block_at self.old.sizes image)) }
+        // Where each image has had what stands on the frozen pages, each holds the whole frozen
+        // map.
+        ensures holds { OnOk result
             (H.tells → (pages : ℕ → List ℕ)
-            → ((image : Image) → (H.disk host.old).may_leave (H.disk host.old).now image → HasPages self.old.sizes self.old.maps.frozen self.old.maps.conv pages image)
-            → (image : Image) → (H.disk host.new).may_leave (H.disk host.new).now image → Holds self.old.sizes self.new.maps.frozen self.new.maps.conv pages image) }
-        // At each moment each image has the slots and stands for the map that it stood for, where no block of that is free.
-        ensures kept { H.tells → Goes (H.disk host.old) (H.disk host.new) (KeepsImages self.old.sizes self.old.free) }
+            → ((image : Image) → (H.disk host.old).may_leave (H.disk host.old).now image
+            → HasPages self.old.sizes self.old.maps.frozen self.old.maps.conv pages image)
+            → (image : Image) → (H.disk host.new).may_leave (H.disk host.new).now image
+            → Holds self.old.sizes self.new.maps.frozen self.new.maps.conv pages image) }
+        // At each moment each image has the slots and stands for the map that it stood for, where
+        // no block of that is free.
+        ensures kept { H.tells
+            → Goes (H.disk host.old) (H.disk host.new) (KeepsImages self.old.sizes self.old.free) }
+        // The faults.
         ensures cause { HasCause (H.faults host.old) (H.faults host.new) result }
         ensures say_faults { H.say_faults host.new ≡ H.say_faults host.old }
     {
+        // Opens the invariant of the store.
         let _blocks = self.blocks();
         let written = state.write_converter(
             host,
@@ -218,25 +251,30 @@ impl PageStore {
             &mut self.converter,
             &mut self.free,
         );
+        // Opens the invariant of the maps.
         let _leaves = self.converter.leaves();
         written
     }
 
-    /// Makes the frozen map that of the last savepoint, and gives free what the former one alone had, but
-    /// for blocks with a mark.
+    /// Makes the frozen map that of the last savepoint, and frees what the former one alone had,
+    /// but for blocks with a mark.
     pub fn release(&mut self, state: Switched) -> Mark
         requires frozen { self.old.maps.frozen_at ≡ Some state.map.savepoint }
         requires written { (page : ℕ) → is_unwritten self.old page ≡ false }
         ensures mark { result ≡ state.mark }
-        ensures settled { self.new ≡ record self.old { maps = settled self.old.maps; free = self.new.free } }
-        ensures given { Given (Leaves self.old.maps self.old.marks) 0 (length self.old.maps.saved) self.old.free self.new.free }
+        ensures settled { self.new
+            ≡ record self.old { maps = settled self.old.maps; free = self.new.free } }
+        ensures given { Given (Leaves self.old.maps self.old.marks) 0 (length self.old.maps.saved)
+            self.old.free self.new.free }
         ensures reads { (seen : Image) → Reads self.old seen → Reads self.new seen }
     {
+        // Opens the invariant of the store.
         let _blocks = self.blocks();
         state.release(&mut self.converter, &mut self.free, &self.marks)
     }
 
-    /// Puts the record of the savepoint in force: `ConverterWritten::switch`, as the store does not change.
+    /// Puts the record of the savepoint in force: `ConverterWritten::switch`, as the store does not
+    /// change.
     pub fn switch<H: Host>(
         &mut self,
         host: &mut H,
@@ -246,34 +284,54 @@ impl PageStore {
     ) -> Result<Switched, (ConverterWritten, Failed)>
         requires place { slots.old.place ≡ restart_place }
         requires root { rec.now.root ≡ state.root }
-        requires mark { (rec.now.savepoint ≡ state.mark.savepoint) × (rec.now.commit ≡ state.mark.commit) × (rec.now.position ≡ state.mark.position) }
+        requires mark { (rec.now.savepoint ≡ state.mark.savepoint)
+            × (rec.now.commit ≡ state.mark.commit) × (rec.now.position ≡ state.mark.position) }
         requires number { rec.now.slot ≡ slots.old.number + 1 }
         requires keeps { KeepsFormat restart_format rec.now }
-        requires within { H.tells → IsWithin (H.disk host.old).seen slots.old.place.device (8192 * slots.old.place.page) 16384 }
+        requires within { H.tells
+            → IsWithin (H.disk host.old).seen slots.old.place.device (8192 * slots.old.place.page)
+            16384 }
+        // The result.
         ensures store { self.new ≡ self.old }
-        ensures known { 2 ≤ get_or self.old.sizes 0 0 → IsKnown H.tells self.old (H.disk host.old).seen → IsKnown H.tells self.new (H.disk host.new).seen }
-        ensures any_moment { H.tells → Goes (H.disk host.old) (H.disk host.new) (Switches slots.old (Restart rec.now)) }
-        ensures there { OnOk result (H.tells → Arrives (H.disk host.old) (H.disk host.new) (SwitchedOver slots.old slots.new (Restart rec.now))) }
+        ensures known { 2 ≤ get_or self.old.sizes 0 0
+            → IsKnown H.tells self.old (H.disk host.old).seen
+            → IsKnown H.tells self.new (H.disk host.new).seen }
+        ensures any_moment { H.tells
+            → Goes (H.disk host.old) (H.disk host.new) (Switches slots.old (Restart rec.now)) }
+        ensures there { OnOk result
+            (H.tells
+            → Arrives (H.disk host.old) (H.disk host.new)
+            (SwitchedOver slots.old slots.new (Restart rec.now))) }
         // At each moment every image stands for the last record's map or for the new one.
-        ensures crash { H.tells → (sizes : List ℕ) (was : RestartRecord) (old new : List ConverterEntry) (conv : ℕ) (before after : ℕ → List ℕ)
+        ensures crash { H.tells
+            → (sizes : List ℕ) (was : RestartRecord) (old new : List ConverterEntry) (conv : ℕ)
+            (before after : ℕ → List ℕ)
             → AtSwitch (H.disk host.old) sizes slots.old was old new conv before after
             → state.root ≡ block_of new 0
-            → Goes (H.disk host.old) (H.disk host.new) (λ _ image. Stands sizes was old conv before image ⊎ Stands sizes rec.now new conv after image) }
+            → Goes (H.disk host.old) (H.disk host.new)
+            (λ _ image. Stands sizes was old conv before image
+            ⊎ Stands sizes rec.now new conv after image) }
         // Afterwards each stands for the new one, and the slots are ready for the next record.
-        ensures put { OnOk
-            result
-            (H.tells → (sizes : List ℕ) (was : RestartRecord) (old new : List ConverterEntry) (conv : ℕ) (before after : ℕ → List ℕ)
+        ensures put { OnOk result
+            (H.tells
+            → (sizes : List ℕ) (was : RestartRecord) (old new : List ConverterEntry) (conv : ℕ)
+            (before after : ℕ → List ℕ)
             → AtSwitch (H.disk host.old) sizes slots.old was old new conv before after
-            → state.root ≡ block_of new 0
-            → (image : Image) → (H.disk host.new).may_leave (H.disk host.new).now image
-            → Stands sizes rec.now new conv after image × IsReady slots.new (Restart rec.now) image) }
+            → state.root ≡ block_of new 0 → (image : Image)
+            → (H.disk host.new).may_leave (H.disk host.new).now image
+            → Stands sizes rec.now new conv after image
+            × IsReady slots.new (Restart rec.now) image) }
         ensures next { IfOk result (λ s. (s.map ≡ state.map) × (s.mark ≡ state.mark)) }
-        ensures number { OnOk result ((slots.new.place ≡ slots.old.place) × (slots.new.number ≡ rec.now.slot)) }
-        ensures back { IfErr result (λ e. (e.0.map ≡ state.map) × (e.0.mark ≡ state.mark) × (e.0.root ≡ state.root)) }
+        ensures number { OnOk result
+            ((slots.new.place ≡ slots.old.place) × (slots.new.number ≡ rec.now.slot)) }
+        ensures back { IfErr result
+            (λ e. (e.0.map ≡ state.map) × (e.0.mark ≡ state.mark) × (e.0.root ≡ state.root)) }
         ensures same { OnErr result (slots.new ≡ slots.old) }
+        // The faults.
         ensures cause { HasCause (H.faults host.old) (H.faults host.new) result }
         ensures say_faults { H.say_faults host.new ≡ H.say_faults host.old }
     {
+        // Opens the invariant of the store.
         let _blocks = self.blocks();
         state.switch(host, slots, rec)
     }

@@ -1,31 +1,49 @@
-//! What a store keeps.
-ghost use Rattle.std.specs.Prelude.{◌≡◌, ◌+◌, ◌-◌, ◌<◌, ◌≤◌, ◌^◌, ◌↔◌, length, sum, IsSome, IsTrue, if◌then◌else◌};
+//! What a store keeps. What holds of it at any time (`IsStore`, `IsKeptStore`):
+//!
+//! 1. The free flags, the marks, the frames and the states have an item for each block, and the
+//!    volumes have as many blocks.
+//! 2. No free block is one of the first two, one that a map has, or one with a mark.
+//! 3. Each other block from the third on is free: none is lost.
+//! 4. No block of the last savepoint's map or of a page of the converter, no free one and none with
+//!    a mark has a newer frame.
+//! 5. A block that is newer has a frame.
+//! 6. While no savepoint is under way the frozen map has no page.
+//! 7. The number of the next savepoint is above 0 and below 2^62.
+//! 8. Exactly the blocks of the pinned map have a mark.
+//! 9. There is room for a pinned map.
+ghost use Rattle.std.specs.Prelude.{◌≡◌, ◌+◌, ◌-◌, ◌<◌, ◌≤◌, ◌^◌, ◌↔◌, if◌then◌else◌};
+ghost use Rattle.std.specs.Prelude.{length, sum, IsSome, IsTrue};
 ghost use Rattle.free_blocks.specs.Free.{free_count};
 ghost use Rattle.converter.specs.Maps.{Maps, IsSound, block_of};
-ghost use Rattle.page_store.specs.Store.{Store, IsStore, Lives, blocks_of, page_block, own_unmarked, spare_of, is_marked, IsHeld};
+ghost use Rattle.page_store.specs.Store.{Store, IsStore, Lives, blocks_of, page_block};
+ghost use Rattle.page_store.specs.Store.{own_unmarked, spare_of, is_marked, IsHeld};
 
 use converter::{Converter, Entry};
 use free_blocks::{FreeBlocks, Marks};
+use mdb_model::limits::PAGE_BYTES;
 use std::marker::Model;
 use volume_disk::Volumes;
 
 /// Whether a block has a frame, and whether the frame is newer than the block.
 #[derive(Clone, Copy, Debug, PartialEq, Eq)]
 pub enum FrameState {
+    /// The block has no frame.
     Absent,
+    /// The frame has what stands on the block.
     Same,
+    /// The frame is newer than the block.
     Changed,
 }
 
-/// Logical pages of 8,192 bytes over the blocks of the data volumes, with one frame in memory for each
-/// block. A frame is filled when its page is first read.
+/// Logical pages of 8,192 bytes over the blocks of the data volumes, with one frame in memory for
+/// each block. A frame is filled when its page is first read.
 #[derive(Drop)]
 pub struct PageStore {
     pub(crate) volumes: Volumes,
     pub(crate) converter: Converter,
     pub(crate) free: FreeBlocks,
     pub(crate) marks: Marks,
-    pub(crate) frames: Vec<[u8; 8192]>,
+    pub(crate) frames: Vec<[u8; PAGE_BYTES]>,
     pub(crate) states: Vec<FrameState>,
     // the number of the next savepoint
     pub(crate) next: u64,
@@ -42,9 +60,11 @@ impl Model for PageStore {
 
     ghost Value = { Store };
 
-    ghost view = { λ s. store_of s.converter s.free s.marks s.volumes s.frames.items s.states.items s.next s.is_pinned s.pinned.items };
+    ghost view = { λ s. store_of s.converter s.free s.marks s.volumes s.frames.items s.states.items
+        s.next s.is_pinned s.pinned.items };
 
-    ghost invariant = { λ s. IsKeptStore s.converter s.free s.marks s.volumes s.frames.items s.states.items s.next s.is_pinned s.pinned.items };
+    ghost invariant = { λ s. IsKeptStore s.converter s.free s.marks s.volumes s.frames.items
+        s.states.items s.next s.is_pinned s.pinned.items };
 }
 
 impl PageStore {
@@ -54,6 +74,7 @@ impl PageStore {
         ensures sound { IsSound self.now.maps }
         ensures store { IsStore self.now }
     {
+        // Opens the invariant of the maps.
         let _leaves = self.converter.leaves();
         self.volumes.blocks()
     }
@@ -82,6 +103,7 @@ impl PageStore {
         ensures sound { IsSound self.now.maps }
         ensures store { IsStore self.now }
     {
+        // Opens the invariant of the store.
         let _blocks = self.blocks();
         let Some(entry) = self.converter.map(page) else {
             unreachable!()
@@ -115,15 +137,16 @@ impl PageStore {
     // 0 where the block of an own page of the last savepoint's map has a mark, and else 1.
     fn unmarked_at(&self, place: u32) -> u32
         requires { place < self.now.maps.conv }
-        ensures { result ≡ (if is_marked self.now.marks (block_of self.now.maps.saved place) then 0 else 1) }
+        ensures { result
+            ≡ (if is_marked self.now.marks (block_of self.now.maps.saved place) then 0 else 1) }
     {
         let entry = self.converter.saved_entry(place);
         if self.marks.marked(entry.block) { 0 } else { 1 }
     }
 
-    /// How many pages that are not paid can be written, new ones included: what is free, less what the
-    /// next savepoint takes for the converter, and while a savepoint is under way less what that one
-    /// takes, and with what it gives free there.
+    /// How many pages that are not paid can be written, new ones included: what is free, less what
+    /// the next savepoint takes for the converter, and while a savepoint is under way less what
+    /// that one takes, and with what it frees there.
     pub fn spare(&self) -> u32
         ensures { result ≡ spare_of self.now }
     {

@@ -10,9 +10,10 @@ use crate::store::PageStore;
 use mdb_bytes::{Pages, PairEdit};
 use mdb_host::Host;
 use mdb_model::fault::PageFault;
+use mdb_model::limits::PAGE_BYTES;
 
-/// A store and its devices, lent together: the pages of the store. Its bytes are known where the host
-/// tells, and the frames agree with what a read gives.
+/// A store and its devices, lent together: the pages of the store. Its bytes are known where the
+/// host tells, and the frames agree with what a read gives.
 #[derive(Drop)]
 pub struct StoreView<'a, H> {
     store: &'a mut PageStore,
@@ -22,8 +23,10 @@ pub struct StoreView<'a, H> {
 impl PageStore {
     /// Lends the store with its devices.
     pub fn view<'a, H: Host>(&'a mut self, host: &'a mut H) -> StoreView<'a, H>
-        ensures store { (result.store.ghost_name ≡ self.entry.ghost_name) × (result.store.now ≡ self.entry.now) }
-        ensures host { (result.host.ghost_name ≡ host.entry.ghost_name) × (result.host.now ≡ host.entry.now) }
+        ensures store { (result.store.ghost_name ≡ self.entry.ghost_name)
+            × (result.store.now ≡ self.entry.now) }
+        ensures host { (result.host.ghost_name ≡ host.entry.ghost_name)
+            × (result.host.now ≡ host.entry.now) }
     {
         StoreView { store: self, host }
     }
@@ -40,21 +43,29 @@ impl<'a, H: Host> Pages for StoreView<'a, H> {
 
     ghost faults = { λ s. H.faults s.host.now };
 
-    ghost follows = { λ a b. (b.store.ghost_name ≡ a.store.ghost_name) × (b.host.ghost_name ≡ a.host.ghost_name)
+    ghost follows = { λ a b. (b.store.ghost_name ≡ a.store.ghost_name)
+        × (b.host.ghost_name ≡ a.host.ghost_name)
         × Keeps H.tells a.store.now b.store.now (H.disk a.host.now) (H.disk b.host.now)
         × (H.say_faults b.host.now ≡ H.say_faults a.host.now) };
 
-    ghost follows_itself = { λ a. (refl, refl, keeps_itself H.tells a.store.now (H.disk a.host.now), refl) };
+    ghost follows_itself = { λ a. (
+      refl,
+      refl,
+      keeps_itself H.tells a.store.now (H.disk a.host.now),
+      refl,
+    ) };
 
     ghost follows_on = { λ a b c f g. (
       g.0 ∙ f.0,
       g.1 ∙ f.1,
-      keeps_further H.tells a.store.now b.store.now c.store.now (H.disk a.host.now) (H.disk b.host.now) (H.disk c.host.now) f.2 g.2,
+      keeps_further H.tells a.store.now b.store.now c.store.now
+          (H.disk a.host.now) (H.disk b.host.now) (H.disk c.host.now) f.2 g.2,
       g.3 ∙ f.3,
     ) };
 
     fn lives(&self, page: u32) -> bool {
         let store = &*self.store;
+        // Opens the invariant of the store.
         let _blocks = store.blocks();
         store.lives(page)
     }
@@ -69,14 +80,14 @@ impl<'a, H: Host> Pages for StoreView<'a, H> {
         Ok(())
     }
 
-    fn read(&mut self, page: u32) -> Result<&[u8; 8192], PageFault> {
+    fn read(&mut self, page: u32) -> Result<&[u8; PAGE_BYTES], PageFault> {
         match self.store.filled(self.host, page) {
             Ok(b) => Ok(self.store.frame(b)),
             Err(fault) => Err(fault),
         }
     }
 
-    fn write(&mut self, page: u32) -> Result<&mut [u8; 8192], PageFault> {
+    fn write(&mut self, page: u32) -> Result<&mut [u8; PAGE_BYTES], PageFault> {
         match self.store.ready(self.host, page) {
             Ok(b) => Ok(self.store.frame_mut(b)),
             Err(fault) => Err(fault),
@@ -84,12 +95,8 @@ impl<'a, H: Host> Pages for StoreView<'a, H> {
     }
 
     fn write_pair<E: PairEdit>(&mut self, a: u32, b: u32, edit: &E) -> Result<bool, PageFault> {
-        match self.store.ready_both(self.host, a, b) {
-            Ok((first, second)) => {
-                let answer = self.store.edit_both(first, second, edit);
-                Ok(answer)
-            }
-            Err(fault) => Err(fault),
-        }
+        let (first, second) = self.store.ready_both(self.host, a, b)?;
+        let answer = self.store.edit_both(first, second, edit);
+        Ok(answer)
     }
 }

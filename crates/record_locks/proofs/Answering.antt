@@ -14,6 +14,10 @@ on_err P (Err e) p = p
 pub failed : {A E : Type 0} (P : Type 0) (r : Result A E) (e : E) → r ≡ Err e → OnOk r P
 failed P r e is = subst (λ x. OnOk x P) (sym is) tt
 
+-- of a success nothing is said on failure
+pub passed : {A E : Type 0} (P : Type 0) (r : Result A E) (a : A) → r ≡ Ok a → OnErr r P
+passed P r a is = subst (λ x. OnErr x P) (sym is) tt
+
 -- what follows from one promise on success is another
 pub on_ok-more : {A E : Type 0} (P Q : Type 0) (r : Result A E) → (P → Q) → OnOk r P → OnOk r Q
 on_ok-more P Q (Ok a) f p = f p

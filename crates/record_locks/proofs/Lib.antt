@@ -1,4 +1,5 @@
 pub mod Answering
+pub mod TablePlaces
 pub mod SessionLocks
 pub mod Found
 pub mod Numbers

@@ -11,8 +11,11 @@ use Rattle.record_locks.specs.Holders.{bars}
 
 -- each session bars exactly what its locks in the machine conflict with
 abbrev pub Agrees : List (List Lock) → World → Type 0
-Agrees locks w = (session : ℕ) → IsTrue (is_session session) → (lock : Lock) → bars locks session lock ≡ list_any (conflict lock) (transaction w session).locks
+Agrees locks w =
+    (session : ℕ) → IsTrue (is_session session) → (lock : Lock)
+    → bars locks session lock ≡ list_any (conflict lock) (transaction w session).locks
 
 -- the sessions that have a transaction are numbered 1 to 64
 abbrev pub AreNumbered : World → Type 0
-AreNumbered w = (session : ℕ) → IsTrue (contains_key w.sessions session) → IsTrue (is_session session)
+AreNumbered w =
+    (session : ℕ) → IsTrue (contains_key w.sessions session) → IsTrue (is_session session)

@@ -1,4 +1,5 @@
--- Which sessions keep a lock from another one. The locks of all sessions are a list: at the index of a session's number are its locks.
+-- Which sessions keep a lock from another one. The locks of all sessions are a list: at the index
+-- of a session's number are its locks.
 --     bars      a session has a lock that conflicts with this one
 --     holder_in      the lowest other session that bars a lock
 --     covers      a lock asks for no more than one that is there
@@ -22,7 +23,8 @@ bars locks session lock = list_any (conflict lock) (locks_of locks session)
 
 -- the lowest session but this one, of 1 to 64, that bars the lock
 unfoldable pub holder_in : List (List Lock) → ℕ → Lock → Option ℕ
-holder_in locks session lock = find (λ other. not (other == session) && bars locks other lock) (range_with_len 1 64)
+holder_in locks session lock =
+    find (λ other. not (other == session) && bars locks other lock) (range_with_len 1 64)
 
 -- whether the first lock asks for no more than the second, which is there
 abbrev pub covers : (lock there : Lock) → Bool
@@ -38,15 +40,25 @@ covers (ShareTable table) (ShareTable other) = table == other
 
 -- a session bars what conflicts with the lock, besides what was barred
 abbrev pub HasLock : (old new : List (List Lock)) → (session : ℕ) → Lock → Type 0
-HasLock old new session lock = (other : ℕ) (asked : Lock) → bars new other asked ≡ (bars old other asked || (other == session && conflict asked lock))
+HasLock old new session lock =
+    (other : ℕ) (asked : Lock) → bars new other asked
+    ≡ (bars old other asked || (other == session && conflict asked lock))
 
--- A session asks for a lock. It is refused exactly where another session bars it, and that session is named; where it is
--- refused or memory is wanting, all is as before. Else the session has the lock. For a lock that it has already no memory is wanting.
-abbrev pub Takes : (old new : List (List Lock)) → (session : ℕ) → Lock → Result (Unit {0}) LockFault → Type 0
-Takes old new session lock (Ok done) = (holder_in old session lock ≡ None) × HasLock old new session lock
-Takes old new session lock (Err (Held holder)) = (holder_in old session lock ≡ Some holder.0) × (new ≡ old)
-Takes old new session lock (Err Memory) = (holder_in old session lock ≡ None) × (new ≡ old) × (list_any (covers lock) (locks_of old session) ≡ false)
+-- A session asks for a lock. It is refused exactly where another session bars it, and that session
+-- is named; where it is refused or memory ran out, all is as before. Else the session has the lock.
+-- For a lock that it has already no memory is needed.
+abbrev pub Takes : (old new : List (List Lock)) → (session : ℕ) → Lock → Result (Unit {0}) LockFault
+    → Type 0
+Takes old new session lock (Ok done) =
+    (holder_in old session lock ≡ None) × HasLock old new session lock
+Takes old new session lock (Err (Held holder)) =
+    (holder_in old session lock ≡ Some holder.0) × (new ≡ old)
+Takes old new session lock (Err Memory) =
+    (holder_in old session lock ≡ None) × (new ≡ old)
+    × (list_any (covers lock) (locks_of old session) ≡ false)
 
 -- a session bars nothing any more
 abbrev pub LetGo : (old new : List (List Lock)) → (session : ℕ) → Type 0
-LetGo old new session = (other : ℕ) (asked : Lock) → bars new other asked ≡ (bars old other asked && not (other == session))
+LetGo old new session =
+    (other : ℕ) (asked : Lock) → bars new other asked
+    ≡ (bars old other asked && not (other == session))

@@ -22,4 +22,6 @@ lock_on table None exclusive = ShareTable table
 
 -- a session bars what it barred before, and what conflicts with the new lock
 abbrev pub HasOneMore : (old new : List Lock) → Lock → Type 0
-HasOneMore old new lock = (other : Lock) → list_any (conflict other) new ≡ (list_any (conflict other) old || conflict other lock)
+HasOneMore old new lock =
+    (other : Lock) → list_any (conflict other) new
+    ≡ (list_any (conflict other) old || conflict other lock)

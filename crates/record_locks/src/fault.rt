@@ -8,7 +8,7 @@ pub enum LockFault {
     /// This session has a lock that conflicts with it.
     #[error("session {} holds a lock that conflicts", .0.0)]
     Held(Session),
-    /// Memory was wanting.
-    #[error("memory was wanting")]
+    /// Out of memory.
+    #[error("out of memory")]
     Memory,
 }

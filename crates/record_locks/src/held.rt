@@ -72,7 +72,8 @@ impl HeldLocks {
     pub(crate) fn take(&mut self, alloc: Global, wanted: Wanted) -> Result<(), Memory>
         ensures ok { OnOk result (HasOneMore self.old self.new (wanted_lock wanted.entry)) }
         ensures err { OnErr result (self.new ≡ self.old) }
-        ensures wanting { OnErr result (list_any (covers (wanted_lock wanted.entry)) self.old ≡ false) }
+        ensures wanting { OnErr result (list_any (covers (wanted_lock wanted.entry)) self.old
+            ≡ false) }
     {
         match wanted {
             Wanted::ShareKey(table, key) => self.share_key(alloc, table, key),
@@ -85,7 +86,8 @@ impl HeldLocks {
     fn share_key(&mut self, alloc: Global, table: Table, key: &Key) -> Result<(), Memory>
         ensures ok { OnOk result (HasOneMore self.old self.new (ShareKey (table.0, key.now))) }
         ensures err { OnErr result (self.new ≡ self.old) }
-        ensures wanting { OnErr result (list_any (covers (ShareKey (table.0, key.now))) self.old ≡ false) }
+        ensures wanting { OnErr result (list_any (covers (ShareKey (table.0, key.now))) self.old
+            ≡ false) }
     {
         if self.exclusive.contains(table, key) {
             return Ok(());

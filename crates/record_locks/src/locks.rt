@@ -35,7 +35,8 @@ impl Model for Locks {
 // The lowest session but this one that bars the lock.
 fn lowest_holder(sessions: &[HeldLocks], session: Session, wanted: Wanted) -> Option<Session>
     requires { length sessions.now ≡ 65 }
-    ensures { option_map (λ holder. holder.0) result ≡ holder_in sessions.now session.0 (wanted_lock wanted.entry) }
+    ensures { option_map (λ holder. holder.0) result
+        ≡ holder_in sessions.now session.0 (wanted_lock wanted.entry) }
 {
     for number in 1..65u8 {
         if number != session.0 && sessions[number as usize].bars(wanted) {
@@ -112,7 +113,8 @@ impl Locks {
         exclusive: bool,
     ) -> Option<Session>
         requires session { IsTrue (is_session s.0) }
-        ensures { option_map (λ holder. holder.0) result ≡ holder_in self.now s.0 (lock_on t.0 (option_copied key.entry) exclusive) }
+        ensures { option_map (λ holder. holder.0) result
+            ≡ holder_in self.now s.0 (lock_on t.0 (option_copied key.entry) exclusive) }
     {
         let wanted = match key {
             Some(key) if exclusive => Wanted::ExclusiveKey(t, key),

@@ -1,75 +1,105 @@
 //! The keys that a session has locked.
-ghost use Rattle.std.specs.Prelude.{◌≡◌, ◌==◌, ◌||◌, Bool, false, [], map, IfOk, IfErr, OnOk, OnErr, IsTrue};
+ghost use Rattle.std.specs.Prelude.{◌≡◌, ◌==◌, ◌||◌, ℕ, Bool, false, List, [], None, OnOk, OnErr};
 ghost use Rattle.std.specs.List.{list_any};
-ghost use Rattle.mdb_model.specs.Tables.{Place, place_cmp};
+ghost use Rattle.std.specs.Map.{lookup};
+ghost use Rattle.std.specs.BTreeMap.{is_at, IsOrdered};
+ghost use Rattle.mdb_model.specs.Tables.{Place};
 ghost use Rattle.mdb_model.specs.Sessions.{same_place};
-ghost use Rattle.mdb_bytes.specs.Fields.{rises};
-ghost use Rattle.sorted_places.specs.Search.{IsAt, IsGap};
-ghost use Rattle.record_locks.specs.LockedPlaces.{locked_place};
+ghost use Rattle.record_locks.specs.LockedPlaces.{all_places};
+ghost use Rattle.record_locks.specs.LockedTables.{table_cmp};
 
 use mdb_model::bytes::Key;
 use mdb_model::fault::Memory;
 use mdb_model::name::Table;
-use sorted_places::place_order;
 use std::alloc::Global;
+use std::collections::{BTreeMap, BTreeSet};
 use std::marker::Model;
 
-// A key of a table.
-#[derive(Drop)]
-struct LockedKey {
-    table: Table,
-    key: Key,
-}
+/// The locked keys of each table.
+type KeysByTable = BTreeMap<Table, BTreeSet<Key>>;
 
-/// A set of keys of tables, in their order.
+/// A set of keys of tables.
 #[derive(Drop)]
 pub(crate) struct PlaceSet {
-    places: Vec<LockedKey>,
+    tables: KeysByTable,
 }
 
 impl Model for PlaceSet {
-    ghost use Rattle.std.specs.Prelude.{List, map, IsTrue};
-    ghost use Rattle.mdb_model.specs.Tables.{Place, place_cmp};
-    ghost use Rattle.mdb_bytes.specs.Fields.{rises};
-    ghost use Rattle.record_locks.specs.LockedPlaces.{locked_place};
+    ghost use Rattle.std.specs.Prelude.{List};
+    ghost use Rattle.std.specs.BTreeMap.{IsOrdered};
+    ghost use Rattle.mdb_model.specs.Tables.{Place};
+    ghost use Rattle.record_locks.specs.LockedPlaces.{all_places};
+    ghost use Rattle.record_locks.specs.LockedTables.{table_cmp};
 
     ghost Value = { List Place };
 
-    ghost view = { λ a. map locked_place a.places.items };
+    ghost view = { λ a. all_places a.tables.entries };
 
-    ghost invariant = { λ a. IsTrue (rises place_cmp (map locked_place a.places.items)) };
+    ghost invariant = { λ a. IsOrdered table_cmp a.tables };
 }
 
-// Where the key stands, or where it would go.
-fn search(places: &[LockedKey], table: Table, key: &[u8]) -> Result<usize, usize>
-    requires { IsTrue (rises place_cmp (map locked_place places.now)) }
-    ensures found { IfOk result (IsAt place_cmp locked_place places.now (table.0, key.now)) }
-    ensures absent { IfErr result (IsGap place_cmp locked_place places.now (table.0, key.now)) }
+// Whether the key is there.
+fn has_key(tables: &KeysByTable, table: Table, key: &Key) -> bool
+    requires { IsOrdered table_cmp tables.now }
+    ensures { result ≡ list_any (same_place (table.0, key.now)) (all_places tables.now.entries) }
 {
-    places.binary_search_by(|place| place_order(place.table, place.key.bytes(), table, key))
+    match tables.get(&table) {
+        Some(keys) => keys.contains(key),
+        None => false,
+    }
 }
 
-// Adds the key, where it is not there yet.
-fn insert_place(
-    places: &mut Vec<LockedKey>,
-    alloc: Global,
-    table: Table,
-    key: &Key,
-) -> Result<(), Memory>
-    requires { IsTrue (rises place_cmp (map locked_place places.old.items)) }
-    ensures ascend { IsTrue (rises place_cmp (map locked_place places.new.items)) }
-    ensures ok { OnOk result ((test : Place → Bool) → list_any test (map locked_place places.new.items)
-        ≡ (list_any test (map locked_place places.old.items) || test (table.0, key.now))) }
-    ensures err { OnErr result (places.new.items ≡ places.old.items) }
-    ensures wanting { OnErr result (list_any (same_place (table.0, key.now)) (map locked_place places.old.items) ≡ false) }
+// Whether a key of the table is there.
+fn has_keys(tables: &KeysByTable, table: Table) -> bool
+    requires { IsOrdered table_cmp tables.now }
+    ensures { result ≡ list_any (λ (place : Place). table.0 == place.0)
+        (all_places tables.now.entries) }
 {
-    let Err(at) = search(places, table, key.bytes()) else {
-        return Ok(());
-    };
-    let key = key.copy(alloc)?;
-    match places.insert(at, LockedKey { table, key }) {
-        Ok(()) => Ok(()),
+    match tables.get(&table) {
+        Some(keys) => !keys.is_empty(),
+        None => false,
+    }
+}
+
+// Adds the key to those of a table.
+fn insert_key(keys: &mut BTreeSet<Key>, key: Key) -> Result<(), Memory>
+    ensures ok { OnOk result ((test : List ℕ → Bool) → list_any test keys.new.keys
+        ≡ (list_any test keys.old.keys || test key)) }
+    ensures err { OnErr result (keys.new.keys ≡ keys.old.keys) }
+{
+    match keys.insert(key) {
+        Ok(_) => Ok(()),
         Err(_) => Err(Memory),
+    }
+}
+
+// Adds a table with its first key.
+fn add_table(tables: &mut KeysByTable, alloc: Global, table: Table, key: Key) -> Result<(), Memory>
+    requires order { IsOrdered table_cmp tables.old }
+    requires absent { lookup (is_at (table_cmp table)) tables.old.entries ≡ None }
+    ensures order { IsOrdered table_cmp tables.new }
+    ensures ok { OnOk result ((test : Place → Bool) → list_any test (all_places tables.new.entries)
+        ≡ (list_any test (all_places tables.old.entries) || test (table.0, key))) }
+    ensures err { OnErr result (all_places tables.new.entries ≡ all_places tables.old.entries) }
+{
+    let mut keys = BTreeSet::new(alloc);
+    insert_key(&mut keys, key)?;
+    match tables.insert(table, keys) {
+        Ok(_) => Ok(()),
+        Err(_) => Err(Memory),
+    }
+}
+
+// Adds the key.
+fn add_key(tables: &mut KeysByTable, alloc: Global, table: Table, key: Key) -> Result<(), Memory>
+    ensures order { IsOrdered table_cmp tables.new }
+    ensures ok { OnOk result ((test : Place → Bool) → list_any test (all_places tables.new.entries)
+        ≡ (list_any test (all_places tables.old.entries) || test (table.0, key))) }
+    ensures err { OnErr result (all_places tables.new.entries ≡ all_places tables.old.entries) }
+{
+    match tables.get_mut(&table) {
+        Some(keys) => insert_key(keys, key),
+        None => add_table(tables, alloc, table, key),
     }
 }
 
@@ -79,7 +109,7 @@ impl PlaceSet {
         ensures { result ≡ [] }
     {
         PlaceSet {
-            places: Vec::new(alloc),
+            tables: BTreeMap::new(alloc),
         }
     }
 
@@ -87,33 +117,34 @@ impl PlaceSet {
     pub(crate) fn contains(&self, table: Table, key: &Key) -> bool
         ensures { result ≡ list_any (same_place (table.0, key.now)) self.now }
     {
-        search(&self.places, table, key.bytes()).is_ok()
+        has_key(&self.tables, table, key)
     }
 
-    /// Whether a key of the table is there. The cost does not grow with their number.
+    /// Whether a key of the table is there.
     pub(crate) fn has_table(&self, table: Table) -> bool
         ensures { result ≡ list_any (λ (place : Place). table.0 == place.0) self.now }
     {
-        // The empty key is below every key of the table.
-        match search(&self.places, table, &[]) {
-            Ok(_) => true,
-            Err(at) => at < self.places.len() && self.places[at].table == table,
-        }
+        has_keys(&self.tables, table)
     }
 
     /// Adds the key. Where it is there already this takes no memory.
     pub(crate) fn insert(&mut self, alloc: Global, table: Table, key: &Key) -> Result<(), Memory>
-        ensures ok { OnOk result ((test : Place → Bool) → list_any test self.new ≡ (list_any test self.old || test (table.0, key.now))) }
+        ensures ok { OnOk result ((test : Place → Bool) → list_any test self.new
+            ≡ (list_any test self.old || test (table.0, key.now))) }
         ensures err { OnErr result (self.new ≡ self.old) }
         ensures wanting { OnErr result (list_any (same_place (table.0, key.now)) self.old ≡ false) }
     {
-        insert_place(&mut self.places, alloc, table, key)
+        if self.contains(table, key) {
+            return Ok(());
+        }
+        let key = key.share()?;
+        add_key(&mut self.tables, alloc, table, key)
     }
 
-    /// Lets all keys go, and keeps the room for as many.
+    /// Lets all keys go.
     pub(crate) fn clear(&mut self)
         ensures { self.new ≡ [] }
     {
-        self.places.clear();
+        self.tables.clear();
     }
 }

@@ -15,11 +15,12 @@ pub record InOrder (ring : Ring) : Type 0 where
   pub low : ring.end_position < 2 ^ 63
   pub count : ring.last_commit < 2 ^ 61 + ring.end_position
 
--- A group of n bytes is refused where it, with a closed gate behind it, does not fit beside the bytes that are not
--- saved, and else where it does not fit beside those that a restart reads.
+-- A group of n bytes is refused where it, with a closed gate behind it, does not fit beside the
+-- bytes that are not saved, and else where it does not fit beside those that a restart reads.
 abbrev pub AppendAnswer : (size unsaved needed n : ℕ) → Result (Unit {0}) RingFault → Type 0
 AppendAnswer size unsaved needed n (Ok done) = (unsaved + n + 1 ≤ size) × (needed + n + 1 ≤ size)
-AppendAnswer size unsaved needed n (Err (Full bytes all)) = (bytes ≡ unsaved) × (all ≡ size) × (size < unsaved + n + 1)
+AppendAnswer size unsaved needed n (Err (Full bytes all)) =
+    (bytes ≡ unsaved) × (all ≡ size) × (size < unsaved + n + 1)
 AppendAnswer size unsaved needed n (Err Pinned) = (unsaved + n + 1 ≤ size) × (size < needed + n + 1)
 AppendAnswer size unsaved needed n (Err Failed) = (unsaved + n + 1 ≤ size) × (needed + n + 1 ≤ size)
 

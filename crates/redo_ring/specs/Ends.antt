@@ -30,14 +30,18 @@ pub record IsEndOf (start : LogStart) (end : LogEnd) : Type 0 where
   pub count : end.commit < 2 ^ 61 + end.position
 
 -- the log from a position on is whole and ends here, or it breaks off
-abbrev pub EndFinds : (size : ℕ) → Name → (ring : ℕ → ℕ) → (start after : ℕ) → Result LogEnd PageFault → Type 0
-EndFinds size name ring start after (Ok end) = (commits : List Commit) × HasLog size name ring start after end.position end.commit commits
-EndFinds size name ring start after (Err (Damaged damage)) = Breaks size name ring start after damage
+abbrev pub EndFinds : (size : ℕ) → Name → (ring : ℕ → ℕ) → (start after : ℕ)
+    → Result LogEnd PageFault → Type 0
+EndFinds size name ring start after (Ok end) =
+    (commits : List Commit) × HasLog size name ring start after end.position end.commit commits
+EndFinds size name ring start after (Err (Damaged damage)) =
+    Breaks size name ring start after damage
 EndFinds size name ring start after (Err Failed) = Unit {0}
 
 -- the end of a log that is there
 abbrev pub EndEnds : (start after : ℕ) → List Commit → Result LogEnd PageFault → Type 0
-EndEnds start after commits (Ok end) = (end.position ≡ start + log_bytes commits) × (end.commit ≡ after + length commits)
+EndEnds start after commits (Ok end) =
+    (end.position ≡ start + log_bytes commits) × (end.commit ≡ after + length commits)
 EndEnds start after commits (Err (Damaged damage)) = ⊥
 EndEnds start after commits (Err Failed) = Unit {0}
 

@@ -1,4 +1,5 @@
--- Opening a log: from where a restart reads, and from where the log is not saved. Both ways have to end at one place.
+-- Opening a log: from where a restart reads, and from where the log is not saved. Both ways have to
+-- end at one place.
 --     IsStart      the numbers of a beginning fit each other
 --     IsOpened      the ring that was opened from there
 --     OpenFinds      what stands in the log where it is opened, and where it is not
@@ -40,20 +41,24 @@ pub record IsOpened (start : LogStart) (ring : Ring) : Type 0 where
 -- the log from a restart's beginning on and the log that is not saved are there, and they end here
 pub record HasBoth (start : LogStart) (ring : ℕ → ℕ) (end last : ℕ) : Type 0 where
   pub commits : List Commit
-  pub log : HasLog (ring_size start.pages) start.name ring start.position start.commit end last commits
+  pub log : HasLog (ring_size start.pages) start.name ring start.position start.commit end last
+      commits
   pub unsaved : List Commit
-  pub unsaved_log : HasLog (ring_size start.pages) start.name ring start.saved_position start.saved_commit end last unsaved
+  pub unsaved_log : HasLog (ring_size start.pages) start.name ring start.saved_position
+      start.saved_commit end last unsaved
 
 -- they end at two places: the damage is told of the first
 pub record Parts (start : LogStart) (ring : ℕ → ℕ) (damage : Damage) : Type 0 where
   pub end : ℕ
   pub last : ℕ
   pub commits : List Commit
-  pub log : HasLog (ring_size start.pages) start.name ring start.position start.commit end last commits
+  pub log : HasLog (ring_size start.pages) start.name ring start.position start.commit end last
+      commits
   pub unsaved_end : ℕ
   pub unsaved_last : ℕ
   pub unsaved : List Commit
-  pub unsaved_log : HasLog (ring_size start.pages) start.name ring start.saved_position start.saved_commit unsaved_end unsaved_last unsaved
+  pub unsaved_log : HasLog (ring_size start.pages) start.name ring start.saved_position
+      start.saved_commit unsaved_end unsaved_last unsaved
   pub two : (end ≢ unsaved_end) ⊎ (last ≢ unsaved_last)
   pub at_end : damage ≡ damage_at (ring_size start.pages) end
 
@@ -76,7 +81,9 @@ pub record IsWhole (start : LogStart) (ring : ℕ → ℕ) (commits unsaved : Li
   pub count : start.commit + length commits ≡ start.saved_commit + length unsaved
 
 abbrev pub OpenEnds : LogStart → List Commit → Result Ring OpenFault → Type 0
-OpenEnds start commits (Ok opened) = (opened.end_position ≡ start.position + log_bytes commits) × (opened.last_commit ≡ start.commit + length commits)
+OpenEnds start commits (Ok opened) =
+    (opened.end_position ≡ start.position + log_bytes commits)
+    × (opened.last_commit ≡ start.commit + length commits)
 OpenEnds start commits (Err (Damaged damage)) = ⊥
 OpenEnds start commits (Err Memory) = Unit {0}
 OpenEnds start commits (Err Failed) = Unit {0}

@@ -30,29 +30,38 @@ pub record IsReader (reader : RingReader) : Type 0 where
 abbrev pub NoGroup : (size : ℕ) → Name → (ring : ℕ → ℕ) → (start position number : ℕ) → Type 0
 NoGroup size name ring start position number =
     (changes : List Change) → position + group_bytes changes < start + size
-    → Spells group_format (record { name = name; number = number + 1; changes = changes }) (bytes_from ring position (group_bytes changes)) → ⊥
+    → Spells group_format (record { name = name; number = number + 1; changes = changes })
+    (bytes_from ring position (group_bytes changes)) → ⊥
 
--- What a reader finds at its position: the group that is due, with an open gate; a closed gate; or an open gate before
--- bytes that are not the group that is due, or one that ends a turn of the ring behind the start.
-abbrev pub Finds : (size : ℕ) → Name → (ring : ℕ → ℕ) → (start position number : ℕ) → (bytes : List ℕ) → Result Bool PageFault → Type 0
-Finds size name ring start position number bytes (Ok true) = (bytes ≡ bytes_from ring position (length bytes)) × HasGroup name (number + 1) bytes
+-- What a reader finds at its position: the group that is due, with an open gate; a closed gate; or
+-- an open gate before bytes that are not the group that is due, or one that ends a turn of the ring
+-- behind the start.
+abbrev pub Finds : (size : ℕ) → Name → (ring : ℕ → ℕ) → (start position number : ℕ)
+    → (bytes : List ℕ) → Result Bool PageFault → Type 0
+Finds size name ring start position number bytes (Ok true) =
+    (bytes ≡ bytes_from ring position (length bytes)) × HasGroup name (number + 1) bytes
 Finds size name ring start position number bytes (Ok false) = ring position ≢ open_gate
 Finds size name ring start position number bytes (Err (Damaged damage)) =
-    (damage ≡ damage_at size position) × (ring position ≡ open_gate) × NoGroup size name ring start position number
+    (damage ≡ damage_at size position) × (ring position ≡ open_gate)
+    × NoGroup size name ring start position number
 Finds size name ring start position number bytes (Err Failed) = Unit {0}
 
 -- where the reader stands after it
 abbrev pub Goes : (old new : RingReader) → (bytes : List ℕ) → Result Bool PageFault → Type 0
-Goes old new bytes (Ok true) = new ≡ record old { position = old.position + length bytes; number = old.number + 1 }
+Goes old new bytes (Ok true) =
+    new ≡ record old { position = old.position + length bytes; number = old.number + 1 }
 Goes old new bytes (Ok false) = new ≡ old
 Goes old new bytes (Err fault) = new ≡ old
 
 -- Of a log of these commits from the position on: the group is that of the first one.
-abbrev pub IsNextOf : (size : ℕ) → Name → (ring : ℕ → ℕ) → (position number : ℕ) → (bytes : List ℕ) → List Commit → Result Bool PageFault → Type 0
+abbrev pub IsNextOf : (size : ℕ) → Name → (ring : ℕ → ℕ) → (position number : ℕ) → (bytes : List ℕ)
+    → List Commit → Result Bool PageFault → Type 0
 IsNextOf size name ring position number bytes commits (Ok true) =
     (commit : Commit) × (rest : List Commit) × (commits ≡ commit ∷ rest)
-    × Spells group_format (record { name = name; number = number + 1; changes = commit.changes }) bytes
-    × (length bytes ≡ group_bytes commit.changes) × IsLog ring name (position + length bytes) (number + 1) rest
+    × Spells group_format (record { name = name; number = number + 1; changes = commit.changes })
+    bytes
+    × (length bytes ≡ group_bytes commit.changes)
+    × IsLog ring name (position + length bytes) (number + 1) rest
 IsNextOf size name ring position number bytes commits (Ok false) = commits ≡ []
 IsNextOf size name ring position number bytes commits (Err (Damaged damage)) = ⊥
 IsNextOf size name ring position number bytes commits (Err Failed) = Unit {0}
@@ -63,25 +72,34 @@ IsNextOf size name ring position number bytes commits (Err Failed) = Unit {0}
 abbrev pub AreGroups : (ℕ → ℕ) → Name → (position after : ℕ) → List Commit → Type 0
 AreGroups ring name position after [] = Unit {0}
 AreGroups ring name position after (commit ∷ commits) =
-    Spells group_format (record { name = name; number = after + 1; changes = commit.changes }) (bytes_from ring position (group_bytes commit.changes))
+    Spells group_format (record { name = name; number = after + 1; changes = commit.changes })
+    (bytes_from ring position (group_bytes commit.changes))
     × AreGroups ring name (position + group_bytes commit.changes) (after + 1) commits
 
--- behind the groups of some commits an open gate stands before bytes that are not the group that is due
-pub record Breaks (size : ℕ) (name : Name) (ring : ℕ → ℕ) (start after : ℕ) (damage : Damage) : Type 0 where
+-- behind the groups of some commits an open gate stands before bytes that are not the group that is
+-- due
+pub record Breaks (size : ℕ) (name : Name) (ring : ℕ → ℕ) (start after : ℕ) (damage : Damage)
+    : Type 0 where
   pub before : List Commit
   pub groups : AreGroups ring name start after before
   pub at_gate : damage ≡ damage_at size (start + log_bytes before)
   pub opened : ring (start + log_bytes before) ≡ open_gate
   pub none : NoGroup size name ring start (start + log_bytes before) (after + length before)
 
--- what a walk from a position on finds: a whole log, which ends where the reader stands then, or where it breaks
-abbrev pub WalkFinds : (size : ℕ) → Name → (ring : ℕ → ℕ) → (start after end last : ℕ) → Result (Unit {0}) PageFault → Type 0
-WalkFinds size name ring start after end last (Ok done) = (commits : List Commit) × HasLog size name ring start after end last commits
-WalkFinds size name ring start after end last (Err (Damaged damage)) = Breaks size name ring start after damage
+-- what a walk from a position on finds: a whole log, which ends where the reader stands then, or
+-- where it breaks
+abbrev pub WalkFinds : (size : ℕ) → Name → (ring : ℕ → ℕ) → (start after end last : ℕ)
+    → Result (Unit {0}) PageFault → Type 0
+WalkFinds size name ring start after end last (Ok done) =
+    (commits : List Commit) × HasLog size name ring start after end last commits
+WalkFinds size name ring start after end last (Err (Damaged damage)) =
+    Breaks size name ring start after damage
 WalkFinds size name ring start after end last (Err Failed) = Unit {0}
 
 -- a log that is there is found
-abbrev pub WalkEnds : (start after end last : ℕ) → List Commit → Result (Unit {0}) PageFault → Type 0
-WalkEnds start after end last commits (Ok done) = (end ≡ start + log_bytes commits) × (last ≡ after + length commits)
+abbrev pub WalkEnds : (start after end last : ℕ) → List Commit → Result (Unit {0}) PageFault
+    → Type 0
+WalkEnds start after end last commits (Ok done) =
+    (end ≡ start + log_bytes commits) × (last ≡ after + length commits)
 WalkEnds start after end last commits (Err (Damaged damage)) = ⊥
 WalkEnds start after end last commits (Err Failed) = Unit {0}

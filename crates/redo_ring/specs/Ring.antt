@@ -5,7 +5,6 @@
 --     IsDue      a log that ends where the next group is to stand, which has room
 --     Appends, Appended      each such log is as before or has one commit more; has one commit more
 --     HasLog      the log from a position on, and where it ends
---     Found, Opened, AppendEnds, NextEnds      what the calls answer
 use Rattle.std.specs.Prelude.{◌≡◌, ◌⊎◌, ℕ, ◌+◌, ◌<◌, ◌≤◌, List, [], ◌∷◌, ◌++◌, length, get_or}
 use Rattle.mdb_model.specs.declared.change.Change.{Change}
 use Rattle.mdb_model.specs.declared.change.Commit.{Commit}
@@ -38,32 +37,41 @@ StandsAt ring p bytes = (i : ℕ) → i < length bytes → ring (p + i) ≡ get_
 
 -- the bytes are the group of a commit of this number
 abbrev pub HasGroup : Name → (number : ℕ) → List ℕ → Type 0
-HasGroup name number bytes = (changes : List Change) × Spells group_format (record { name = name; number = number; changes = changes }) bytes
+HasGroup name number bytes =
+    (changes : List Change) × Spells group_format
+    (record { name = name; number = number; changes = changes }) bytes
 
--- From p on, after commit `after`, stand these commits, and the next group is due at `end` with the number behind
--- `last`. A group of n bytes has room there, with a closed gate behind it.
-pub record IsDue (size : ℕ) (name : Name) (end last n : ℕ) (ring : ℕ → ℕ) (p after : ℕ) (commits : List Commit) : Type 0 where
+-- From p on, after commit `after`, stand these commits, and the next group is due at `end` with the
+-- number behind `last`. A group of n bytes has room there, with a closed gate behind it.
+pub record IsDue (size : ℕ) (name : Name) (end last n : ℕ) (ring : ℕ
+    → ℕ) (p after : ℕ) (commits : List Commit) : Type 0 where
   pub log : IsLog ring name p after commits
   pub ends : p + log_bytes commits ≡ end
   pub count : after + length commits ≡ last
   pub room : end + n + 1 ≤ p + size
 
 -- each log that ends here is as before, or has one commit more
-pub record Appends (size : ℕ) (name : Name) (end last : ℕ) (changes : List Change) (old new : Image) : Type 0 where
+pub record Appends (size : ℕ) (name : Name) (end last : ℕ) (changes : List Change) (old new : Image)
+    : Type 0 where
   pub others : AgreeBut Log old new
   pub same_size : size_of (new Log) ≡ size_of (old Log)
   pub front : (k : ℕ) → k < 16384 → byte_at (new Log) k ≡ byte_at (old Log) k
-  pub log : (p after : ℕ) (commits : List Commit) → IsDue size name end last (group_bytes changes) (ring_byte size old) p after commits
-      → IsLog (ring_byte size new) name p after commits ⊎ IsLog (ring_byte size new) name p after (commits ++ record { changes = changes } ∷ [])
+  pub log : (p after : ℕ) (commits : List Commit)
+      → IsDue size name end last (group_bytes changes) (ring_byte size old) p after commits
+      → IsLog (ring_byte size new) name p after commits
+      ⊎ IsLog (ring_byte size new) name p after (commits ++ record { changes = changes } ∷ [])
 
 -- each has it
-pub record Appended (size : ℕ) (name : Name) (end last : ℕ) (changes : List Change) (old new : Image) : Type 0 where
+pub record Appended (size : ℕ) (name : Name) (end last : ℕ) (changes : List Change)
+    (old new : Image) : Type 0 where
   pub appends : Appends size name end last changes old new
-  pub more : (p after : ℕ) (commits : List Commit) → IsDue size name end last (group_bytes changes) (ring_byte size old) p after commits
+  pub more : (p after : ℕ) (commits : List Commit)
+      → IsDue size name end last (group_bytes changes) (ring_byte size old) p after commits
       → IsLog (ring_byte size new) name p after (commits ++ record { changes = changes } ∷ [])
 
 -- the commits of the log from a position on, which have fewer bytes than the ring
-pub record HasLog (size : ℕ) (name : Name) (ring : ℕ → ℕ) (p after end last : ℕ) (commits : List Commit) : Type 0 where
+pub record HasLog (size : ℕ) (name : Name) (ring : ℕ
+    → ℕ) (p after end last : ℕ) (commits : List Commit) : Type 0 where
   pub log : IsLog ring name p after commits
   pub ends : end ≡ p + log_bytes commits
   pub count : last ≡ after + length commits

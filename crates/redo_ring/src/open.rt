@@ -51,10 +51,14 @@ impl Ring {
         ensures calm { H.tells → Runs (H.disk host.old) (H.disk host.new) Agree }
         ensures seen { H.tells → Agree (H.disk host.old).seen (H.disk host.new).seen }
         ensures opened { IfOk result (λ ring. IsOpened start.now ring) }
-        ensures finds { H.tells → OpenFinds start.now (ring_byte (ring_size start.now.pages) (H.disk host.old).seen) result }
-        ensures ends { H.tells → (commits unsaved : List Commit) → IsWhole start.now (ring_byte (ring_size start.now.pages) (H.disk host.old).seen) commits unsaved → OpenEnds start.now commits result }
+        ensures finds { H.tells → OpenFinds start.now
+            (ring_byte (ring_size start.now.pages) (H.disk host.old).seen) result }
+        ensures ends { H.tells → (commits unsaved : List Commit)
+            → IsWhole start.now (ring_byte (ring_size start.now.pages) (H.disk host.old).seen)
+            commits unsaved → OpenEnds start.now commits result }
         ensures later { H.faults host.old ≤ H.faults host.new }
-        ensures cause { result ≡ Err OpenFault.Failed → Rose (H.faults host.old) (H.faults host.new) }
+        ensures cause { result ≡ Err OpenFault.Failed
+            → Rose (H.faults host.old) (H.faults host.new) }
         ensures say_faults { H.say_faults host.new ≡ H.say_faults host.old }
     {
         let Ok(mut group) = GroupBuf::new(alloc) else {
@@ -72,7 +76,13 @@ impl Ring {
         requires size { IsRingSize self.now.size }
         requires low { position < 2 ^ 62 }
         requires count { commit < 2 ^ 61 + position }
-        ensures begins { result ≡ record { name = self.now.name; size = self.now.size; start = position; position = position; number = commit } }
+        ensures begins { result ≡ record {
+          name = self.now.name;
+          size = self.now.size;
+          start = position;
+          position = position;
+          number = commit;
+        } }
         ensures order { IsReader result }
     {
         RingReader {
@@ -127,8 +137,11 @@ fn log_end<H: Host>(
     ensures seen { H.tells → Agree (H.disk host.old).seen (H.disk host.new).seen }
     ensures order { IfOk result (λ end. IsEnd size position end) }
     ensures grown { IfOk result (λ end. end.commit + position ≤ commit + end.position) }
-    ensures finds { H.tells → EndFinds size name (ring_byte size (H.disk host.old).seen) position commit result }
-    ensures ends { H.tells → (commits : List Commit) → IsLog (ring_byte size (H.disk host.old).seen) name position commit commits → log_bytes commits < size → EndEnds position commit commits result }
+    ensures finds { H.tells → EndFinds size name (ring_byte size (H.disk host.old).seen) position
+        commit result }
+    ensures ends { H.tells → (commits : List Commit)
+        → IsLog (ring_byte size (H.disk host.old).seen) name position commit commits
+        → log_bytes commits < size → EndEnds position commit commits result }
     ensures later { H.faults host.old ≤ H.faults host.new }
     ensures cause { result ≡ Err PageFault.Failed → Rose (H.faults host.old) (H.faults host.new) }
     ensures say_faults { H.say_faults host.new ≡ H.say_faults host.old }
@@ -160,8 +173,11 @@ fn both_ends<H: Host>(
     ensures calm { H.tells → Runs (H.disk host.old) (H.disk host.new) Agree }
     ensures seen { H.tells → Agree (H.disk host.old).seen (H.disk host.new).seen }
     ensures order { IfOk result (λ end. IsEndOf start.now end) }
-    ensures finds { H.tells → BothFinds start.now (ring_byte (ring_size start.now.pages) (H.disk host.old).seen) result }
-    ensures ends { H.tells → (commits unsaved : List Commit) → IsWhole start.now (ring_byte (ring_size start.now.pages) (H.disk host.old).seen) commits unsaved → BothEnds start.now commits result }
+    ensures finds { H.tells → BothFinds start.now
+        (ring_byte (ring_size start.now.pages) (H.disk host.old).seen) result }
+    ensures ends { H.tells → (commits unsaved : List Commit)
+        → IsWhole start.now (ring_byte (ring_size start.now.pages) (H.disk host.old).seen) commits
+        unsaved → BothEnds start.now commits result }
     ensures later { H.faults host.old ≤ H.faults host.new }
     ensures cause { result ≡ Err PageFault.Failed → Rose (H.faults host.old) (H.faults host.new) }
     ensures say_faults { H.say_faults host.new ≡ H.say_faults host.old }

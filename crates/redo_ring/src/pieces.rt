@@ -21,9 +21,12 @@ fn write_piece<H: Host>(
     requires some { 0 < length bytes.now }
     requires ring { H.tells → HasRing size (H.disk host.old).seen }
     ensures count { IfOk result (λ n. (0 < n) × (n ≤ length bytes.now)) }
-    ensures goes { H.tells → Goes (H.disk host.old) (H.disk host.new) (RingTorn size position (length bytes.now)) }
-    ensures seen { H.tells → RingTorn size position (length bytes.now) (H.disk host.old).seen (H.disk host.new).seen }
-    ensures written { IfOk result (λ n. H.tells → (i : ℕ) → i < n → ring_byte size (H.disk host.new).seen (position + i) ≡ get_or bytes.now i 0) }
+    ensures goes { H.tells → Goes (H.disk host.old) (H.disk host.new)
+        (RingTorn size position (length bytes.now)) }
+    ensures seen { H.tells → RingTorn size position (length bytes.now) (H.disk host.old).seen
+        (H.disk host.new).seen }
+    ensures written { IfOk result (λ n. H.tells → (i : ℕ) → i < n
+        → ring_byte size (H.disk host.new).seen (position + i) ≡ get_or bytes.now i 0) }
     ensures cause { HasCause (H.faults host.old) (H.faults host.new) result }
     ensures say_faults { H.say_faults host.new ≡ H.say_faults host.old }
 {
@@ -62,9 +65,12 @@ pub(crate) fn write_ring<H: Host>(
     requires low { position < 2 ^ 62 }
     requires fits { length bytes.now ≤ size }
     requires ring { H.tells → HasRing size (H.disk host.old).seen }
-    ensures goes { H.tells → Goes (H.disk host.old) (H.disk host.new) (RingTorn size position (length bytes.now)) }
-    ensures seen { H.tells → RingTorn size position (length bytes.now) (H.disk host.old).seen (H.disk host.new).seen }
-    ensures written { OnOk result (H.tells → StandsAt (ring_byte size (H.disk host.new).seen) position bytes.now) }
+    ensures goes { H.tells → Goes (H.disk host.old) (H.disk host.new)
+        (RingTorn size position (length bytes.now)) }
+    ensures seen { H.tells → RingTorn size position (length bytes.now) (H.disk host.old).seen
+        (H.disk host.new).seen }
+    ensures written { OnOk result (H.tells
+        → StandsAt (ring_byte size (H.disk host.new).seen) position bytes.now) }
     ensures cause { HasCause (H.faults host.old) (H.faults host.new) result }
     ensures say_faults { H.say_faults host.new ≡ H.say_faults host.old }
 {
@@ -87,9 +93,13 @@ pub(crate) fn write_ring_kept<H: Host>(
     requires low { position < 2 ^ 62 }
     requires fits { length bytes.now ≤ size }
     requires ring { H.tells → HasRing size (H.disk host.old).seen }
-    ensures goes { H.tells → Goes (H.disk host.old) (H.disk host.new) (RingTorn size position (length bytes.now)) }
-    ensures seen { H.tells → RingTorn size position (length bytes.now) (H.disk host.old).seen (H.disk host.new).seen }
-    ensures kept { OnOk result (H.tells → (image : Image) → (H.disk host.new).may_leave (H.disk host.new).now image → StandsAt (ring_byte size image) position bytes.now) }
+    ensures goes { H.tells → Goes (H.disk host.old) (H.disk host.new)
+        (RingTorn size position (length bytes.now)) }
+    ensures seen { H.tells → RingTorn size position (length bytes.now) (H.disk host.old).seen
+        (H.disk host.new).seen }
+    ensures kept { OnOk result (H.tells → (image : Image)
+        → (H.disk host.new).may_leave (H.disk host.new).now image
+        → StandsAt (ring_byte size image) position bytes.now) }
     ensures cause { HasCause (H.faults host.old) (H.faults host.new) result }
     ensures say_faults { H.say_faults host.new ≡ H.say_faults host.old }
 {
@@ -110,7 +120,8 @@ pub(crate) fn read_ring<H: Host>(
     requires ring { H.tells → HasRing size (H.disk host.old).seen }
     ensures calm { H.tells → Goes (H.disk host.old) (H.disk host.new) Agree }
     ensures seen { H.tells → Agree (H.disk host.old).seen (H.disk host.new).seen }
-    ensures bytes { OnOk result (H.tells → StandsAt (ring_byte size (H.disk host.old).seen) position into.new) }
+    ensures bytes { OnOk result (H.tells
+        → StandsAt (ring_byte size (H.disk host.old).seen) position into.new) }
     ensures cause { HasCause (H.faults host.old) (H.faults host.new) result }
     ensures say_faults { H.say_faults host.new ≡ H.say_faults host.old }
 {

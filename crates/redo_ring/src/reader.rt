@@ -12,17 +12,8 @@ use crate::pieces::read_ring;
 use mdb_bytes::{GroupBuf, group_len, is_due};
 use mdb_host::{Device, Failed, Host};
 use mdb_model::fault::{Damage, PageFault, Rule};
+use mdb_model::limits::{GROUP_HEAD, LONGEST_GROUP, OPEN_GATE};
 use mdb_model::name::Name;
-
-// The gate of a group that counts.
-const OPEN: u8 = 0x4F;
-
-// The bytes of a group's head, its gate included.
-const HEAD: usize = 33;
-
-// The bytes that a group may have at most.
-const MOST: u64 = 1_048_576;
-
 /// Reads the groups of a log from a position on, up to the first closed gate.
 #[derive(Clone, Copy, Debug, PartialEq, Eq)]
 pub struct RingReader {
@@ -48,21 +39,28 @@ impl RingReader {
         ensures order { IsReader self.new }
         ensures calm { H.tells → Runs (H.disk host.old) (H.disk host.new) Agree }
         ensures seen { H.tells → Agree (H.disk host.old).seen (H.disk host.new).seen }
-        ensures group { IfOk result (λ more. more ≡ true → HasGroup self.old.name (self.old.number + 1) into.new) }
+        ensures group { IfOk result (λ more. more ≡ true
+            → HasGroup self.old.name (self.old.number + 1) into.new) }
         ensures goes { Goes self.old self.new into.new result }
-        ensures finds { H.tells → Finds self.old.size self.old.name (ring_byte self.old.size (H.disk host.old).seen) self.old.start self.old.position self.old.number into.new result }
-        ensures next { H.tells → (commits : List Commit) → IsLog (ring_byte self.old.size (H.disk host.old).seen) self.old.name self.old.position self.old.number commits
+        ensures finds { H.tells → Finds self.old.size self.old.name
+            (ring_byte self.old.size (H.disk host.old).seen) self.old.start self.old.position
+            self.old.number into.new result }
+        ensures next { H.tells → (commits : List Commit)
+            → IsLog (ring_byte self.old.size (H.disk host.old).seen) self.old.name self.old.position
+            self.old.number commits
             → self.old.position + log_bytes commits < self.old.start + self.old.size
-            → IsNextOf self.old.size self.old.name (ring_byte self.old.size (H.disk host.old).seen) self.old.position self.old.number into.new commits result }
+            → IsNextOf self.old.size self.old.name (ring_byte self.old.size (H.disk host.old).seen)
+            self.old.position self.old.number into.new commits result }
         ensures later { H.faults host.old ≤ H.faults host.new }
-        ensures cause { result ≡ Err PageFault.Failed → Rose (H.faults host.old) (H.faults host.new) }
+        ensures cause { result ≡ Err PageFault.Failed
+            → Rose (H.faults host.old) (H.faults host.new) }
         ensures say_faults { H.say_faults host.new ≡ H.say_faults host.old }
     {
-        let mut head = [0u8; HEAD];
+        let mut head = [0u8; GROUP_HEAD];
         let Ok(()) = read_ring(host, self.size, self.position, &mut head) else {
             return Err(PageFault::Failed);
         };
-        if head[0] != OPEN {
+        if head[0] != OPEN_GATE {
             return Ok(false);
         }
         let bytes = group_len(&head) as u64;
@@ -84,9 +82,12 @@ impl RingReader {
     fn has_room(&self, bytes: u64) -> bool
         requires order { IsReader self.now }
         requires small { bytes < 2 ^ 32 }
-        ensures { IsTrue result ↔ ((33 ≤ bytes) × (bytes ≤ 1048576) × (self.now.position + bytes < self.now.start + self.now.size)) }
+        ensures { IsTrue result ↔ ((33 ≤ bytes) × (bytes ≤ 1048576)
+            × (self.now.position + bytes < self.now.start + self.now.size)) }
     {
-        HEAD as u64 <= bytes && bytes <= MOST && self.position + bytes < self.start + self.size
+        GROUP_HEAD as u64 <= bytes
+            && bytes <= LONGEST_GROUP as u64
+            && self.position + bytes < self.start + self.size
     }
 
     // The gate is open before bytes that are not the group that is due.
@@ -116,7 +117,9 @@ fn read_more<H: Host>(
     requires ring { H.tells → HasRing size (H.disk host.old).seen }
     ensures calm { H.tells → Runs (H.disk host.old) (H.disk host.new) Agree }
     ensures seen { H.tells → Agree (H.disk host.old).seen (H.disk host.new).seen }
-    ensures added { OnOk result ((bytes : List ℕ) × (length bytes ≡ count) × (into.new ≡ into.old ++ bytes) × (H.tells → StandsAt (ring_byte size (H.disk host.old).seen) position bytes)) }
+    ensures added { OnOk result ((bytes : List ℕ) × (length bytes ≡ count)
+        × (into.new ≡ into.old ++ bytes)
+        × (H.tells → StandsAt (ring_byte size (H.disk host.old).seen) position bytes)) }
     ensures cause { HasCause (H.faults host.old) (H.faults host.new) result }
     ensures say_faults { H.say_faults host.new ≡ H.say_faults host.old }
 {
@@ -142,7 +145,8 @@ fn read_group<H: Host>(
     ensures calm { H.tells → Runs (H.disk host.old) (H.disk host.new) Agree }
     ensures seen { H.tells → Agree (H.disk host.old).seen (H.disk host.new).seen }
     ensures len { OnOk result (length into.new ≡ bytes) }
-    ensures bytes { OnOk result (H.tells → StandsAt (ring_byte size (H.disk host.old).seen) position into.new) }
+    ensures bytes { OnOk result (H.tells
+        → StandsAt (ring_byte size (H.disk host.old).seen) position into.new) }
     ensures cause { HasCause (H.faults host.old) (H.faults host.new) result }
     ensures say_faults { H.say_faults host.new ≡ H.say_faults host.old }
 {
@@ -167,12 +171,18 @@ pub(crate) fn walk<H: Host>(
     requires ring { H.tells → HasRing reader.old.size (H.disk host.old).seen }
     ensures order { IsReader reader.new }
     ensures grown { reader.new.number + reader.old.start ≤ reader.old.number + reader.new.position }
-    ensures same { (reader.new.name ≡ reader.old.name) × (reader.new.size ≡ reader.old.size) × (reader.new.start ≡ reader.old.start) }
+    ensures same { (reader.new.name ≡ reader.old.name) × (reader.new.size ≡ reader.old.size)
+        × (reader.new.start ≡ reader.old.start) }
     ensures calm { H.tells → Runs (H.disk host.old) (H.disk host.new) Agree }
     ensures seen { H.tells → Agree (H.disk host.old).seen (H.disk host.new).seen }
-    ensures finds { H.tells → WalkFinds reader.old.size reader.old.name (ring_byte reader.old.size (H.disk host.old).seen) reader.old.start reader.old.number reader.new.position reader.new.number result }
-    ensures ends { H.tells → (commits : List Commit) → IsLog (ring_byte reader.old.size (H.disk host.old).seen) reader.old.name reader.old.start reader.old.number commits → log_bytes commits < reader.old.size
-        → WalkEnds reader.old.start reader.old.number reader.new.position reader.new.number commits result }
+    ensures finds { H.tells → WalkFinds reader.old.size reader.old.name
+        (ring_byte reader.old.size (H.disk host.old).seen) reader.old.start reader.old.number
+        reader.new.position reader.new.number result }
+    ensures ends { H.tells → (commits : List Commit)
+        → IsLog (ring_byte reader.old.size (H.disk host.old).seen) reader.old.name reader.old.start
+        reader.old.number commits → log_bytes commits < reader.old.size
+        → WalkEnds reader.old.start reader.old.number reader.new.position reader.new.number commits
+        result }
     ensures later { H.faults host.old ≤ H.faults host.new }
     ensures cause { result ≡ Err PageFault.Failed → Rose (H.faults host.old) (H.faults host.new) }
     ensures say_faults { H.say_faults host.new ≡ H.say_faults host.old }

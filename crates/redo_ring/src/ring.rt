@@ -14,11 +14,8 @@ use crate::fault::RingFault;
 use crate::pieces::write_ring_kept;
 use mdb_bytes::GroupBuf;
 use mdb_host::{Failed, Host};
+use mdb_model::limits::OPEN_GATE;
 use mdb_model::name::Name;
-
-// The gate of a group that counts.
-const OPEN: u8 = 0x4F;
-
 /// The log of one database. Positions count bytes since its creation and never fall: position p
 /// lies at byte `p % size` of the ring.
 #[derive(Clone, Copy, Debug, PartialEq, Eq)]
@@ -52,17 +49,41 @@ impl Ring {
         requires low { self.old.end_position + length group.now < 2 ^ 62 }
         requires due { HasGroup self.old.name (self.old.last_commit + 1) group.now }
         requires ring { H.tells → HasRing self.old.size (H.disk host.old).seen }
-        ensures answer { AppendAnswer self.old.size (self.old.end_position - self.old.saved_position) (self.old.end_position - self.old.redo_position) (length group.now) result }
-        ensures ok { OnOk result (self.new ≡ record self.old { end_position = self.old.end_position + length group.now; last_commit = self.old.last_commit + 1 }) }
+        ensures answer { AppendAnswer self.old.size
+            (self.old.end_position - self.old.saved_position)
+            (self.old.end_position - self.old.redo_position) (length group.now) result }
+        ensures ok { OnOk result (self.new
+            ≡ record self.old {
+              end_position = self.old.end_position
+                  + length group.now;
+              last_commit = self.old.last_commit + 1;
+            }) }
         ensures err { OnErr result (self.new ≡ self.old) }
         ensures untouched { Untouched result (host.new ≡ host.old) }
-        ensures any_moment { H.tells → (changes : List Change) → Spells group_format (record { name = self.old.name; number = self.old.last_commit + 1; changes = changes }) group.now
-            → Goes (H.disk host.old) (H.disk host.new) (Appends self.old.size self.old.name self.old.end_position self.old.last_commit changes) }
-        ensures there { OnOk result (H.tells → (changes : List Change) → Spells group_format (record { name = self.old.name; number = self.old.last_commit + 1; changes = changes }) group.now
-            → Arrives (H.disk host.old) (H.disk host.new) (Appended self.old.size self.old.name self.old.end_position self.old.last_commit changes)) }
+        ensures any_moment { H.tells → (changes : List Change)
+            → Spells group_format (record {
+              name = self.old.name;
+              number = self.old.last_commit
+                  + 1;
+              changes = changes;
+            }) group.now
+            → Goes (H.disk host.old) (H.disk host.new)
+            (Appends self.old.size self.old.name self.old.end_position self.old.last_commit
+            changes) }
+        ensures there { OnOk result (H.tells → (changes : List Change)
+            → Spells group_format (record {
+              name = self.old.name;
+              number = self.old.last_commit
+                  + 1;
+              changes = changes;
+            }) group.now
+            → Arrives (H.disk host.old) (H.disk host.new)
+            (Appended self.old.size self.old.name self.old.end_position self.old.last_commit
+            changes)) }
         ensures ring { H.tells → HasRing self.old.size (H.disk host.new).seen }
         ensures later { H.faults host.old ≤ H.faults host.new }
-        ensures cause { result ≡ Err RingFault.Failed → Rose (H.faults host.old) (H.faults host.new) }
+        ensures cause { result ≡ Err RingFault.Failed
+            → Rose (H.faults host.old) (H.faults host.new) }
         ensures say_faults { H.say_faults host.new ≡ H.say_faults host.old }
     {
         self.refusal(group.len() as u64)?;
@@ -78,7 +99,9 @@ impl Ring {
     fn refusal(&self, bytes: u64) -> Result<(), RingFault>
         requires order { InOrder self.now }
         requires small { bytes < 2 ^ 62 }
-        ensures answer { AppendAnswer self.now.size (self.now.end_position - self.now.saved_position) (self.now.end_position - self.now.redo_position) bytes result }
+        ensures answer { AppendAnswer self.now.size
+            (self.now.end_position - self.now.saved_position)
+            (self.now.end_position - self.now.redo_position) bytes result }
         ensures not_failed { result ≡ Err RingFault.Failed → ⊥ }
     {
         let unsaved = self.end_position - self.saved_position;
@@ -103,10 +126,13 @@ fn append_closed<H: Host>(host: &mut H, size: u64, end: u64, closed: &[u8]) -> R
     requires some { 1 < length closed.now }
     requires fits { length closed.now ≤ size }
     requires ring { H.tells → HasRing size (H.disk host.old).seen }
-    ensures any_moment { H.tells → (name : Name) (last : ℕ) (changes : List Change) (group : List ℕ) → closed.now ≡ group ++ 0 ∷ []
+    ensures any_moment { H.tells → (name : Name) (last : ℕ) (changes : List Change) (group : List ℕ)
+        → closed.now ≡ group ++ 0 ∷ []
         → Spells group_format (record { name = name; number = last + 1; changes = changes }) group
         → Goes (H.disk host.old) (H.disk host.new) (Appends size name end last changes) }
-    ensures there { OnOk result (H.tells → (name : Name) (last : ℕ) (changes : List Change) (group : List ℕ) → closed.now ≡ group ++ 0 ∷ []
+    ensures there { OnOk result (H.tells
+        → (name : Name) (last : ℕ) (changes : List Change) (group : List ℕ)
+        → closed.now ≡ group ++ 0 ∷ []
         → Spells group_format (record { name = name; number = last + 1; changes = changes }) group
         → Arrives (H.disk host.old) (H.disk host.new) (Appended size name end last changes)) }
     ensures ring { H.tells → HasRing size (H.disk host.new).seen }
@@ -114,5 +140,5 @@ fn append_closed<H: Host>(host: &mut H, size: u64, end: u64, closed: &[u8]) -> R
     ensures say_faults { H.say_faults host.new ≡ H.say_faults host.old }
 {
     write_ring_kept(host, size, end + 1, &closed[1..])?;
-    write_ring_kept(host, size, end, &[OPEN])
+    write_ring_kept(host, size, end, &[OPEN_GATE])
 }

@@ -3,9 +3,9 @@
 --     next-redone      a step that was made
 --     upto-none, upto-behind      no commit is left to be set
 --     number-small      the number of a group
---     cause_on      the cause of a fault, from an earlier moment on
+--     cause_passed      the cause of a fault that is passed on, from an earlier moment on
 use Rattle.std.proofs.Common.{◌≡◌, refl, sym, ap, ◌∙◌, inl, inr, ℕ, zero, suc, ◌+◌, ◌-◌, ◌^◌, ◌<◌, ◌≤◌, true, ◌&&◌, List, [], ◌∷◌, take, drop, Option, Some, None, Err, IsTrue, arith}
-use Rattle.std.specs.Prelude.{IsSomeAnd, nat_lt}
+use Rattle.std.specs.Prelude.{IsSomeAnd, IsErrAnd, Result, Ok, nat_lt}
 use Rattle.std.proofs.lemmas.List.{drop-drop}
 use Rattle.std.proofs.lemmas.Bool.{ltb-true}
 use Rattle.mdb_model.specs.Causes.{Rose}
@@ -129,11 +129,12 @@ number-small head fits =
 pub rose_on : (a b c : ℕ) → a ≤ b → Rose b c → Rose a c
 rose_on a b c le rose = omega arith
 
--- the cause of a fault, from an earlier moment on
-pub cause_on : {known known2 little little2 : Type 0} {T U : Type 0} (a b c : ℕ) (fault : PageFault) → a ≤ b → (known → known2) → (little2 → little)
-    → HasRedoCause {T = T} known2 little2 b c (Err fault) → HasRedoCause {T = U} known little a c (Err fault)
-cause_on a b c fault le knows more cause = record {
+-- the cause of a fault that is passed on, from an earlier moment on
+pub cause_passed : {known known2 little little2 : Type 0} {T U : Type 0} (a b c : ℕ) (fault : PageFault) (answer : Result U PageFault) → IsErrAnd answer (λ passed. passed ≡ fault)
+    → a ≤ b → (known → known2) → (little2 → little) → HasRedoCause {T = T} known2 little2 b c (Err fault) → HasRedoCause {T = U} known little a c answer
+cause_passed a b c fault (Ok value) is le knows more cause = absurd is
+cause_passed a b c fault (Err passed) is le knows more cause = record {
   later = let l = cause.later in omega arith;
-  failed = λ is. rose_on a b c le (cause.failed is);
-  whole = λ k. elim (cause.whole (knows k)) [ inl is ↦ inl is | inr (room, few) ↦ inr (room, more few) ];
+  failed = λ failed. rose_on a b c le (cause.failed (sym is ∙ failed));
+  whole = λ k. elim (cause.whole (knows k)) [ inl failed ↦ inl (is ∙ failed) | inr (room, few) ↦ inr (is ∙ room, more few) ];
 }

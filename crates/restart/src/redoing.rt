@@ -22,27 +22,40 @@ use mdb_model::fault::PageFault;
 // Makes one change in the rows.
 fn redo_change<G: Ground>(ground: &mut G, change: LoggedChange<'_>) -> Result<(), PageFault>
     requires limits { IsWithinLimits change }
-    requires due { G.began_is_known ground.old → IsResumable (G.began ground.old) (G.last_done ground.old) (G.held ground.old).rows }
-    ensures made { G.is_known ground.old → OnOk result (G.is_known ground.new
-        × (G.held ground.new ≡ record (G.held ground.old) { rows = with_change (change_of change.entry) (G.held ground.old).rows })) }
-    ensures cause { HasRedoCause (G.is_known ground.old) (G.spare_after_savepoint ground.old < 64) (G.faults ground.old) (G.faults ground.new) result }
+    requires due { G.began_is_known ground.old
+        → IsResumable (G.began ground.old) (G.last_done ground.old) (G.held ground.old).rows }
+    ensures made { G.is_known ground.old
+        → OnOk result
+        (G.is_known ground.new
+        × (G.held ground.new
+        ≡ record (G.held ground.old)
+        { rows = with_change (change_of change.entry) (G.held ground.old).rows })) }
+    ensures cause { HasRedoCause (G.is_known ground.old) (G.spare_after_savepoint ground.old < 64)
+        (G.faults ground.old) (G.faults ground.new) result }
     ensures follows { G.follows ground.old ground.new }
 {
     ground.room()?;
     match change {
         LoggedChange::Put(table, key, value) => ground.put(table, key, value),
-        LoggedChange::Del(table, key) => match ground.del(table, key) {
-            Ok(_) => Ok(()),
-            Err(fault) => Err(fault),
-        },
+        LoggedChange::Del(table, key) => {
+            ground.del(table, key)?;
+            Ok(())
+        }
     }
 }
 
 // Makes the changes of a group in the rows.
 fn redo_group<G: Ground>(ground: &mut G, group: &GroupBuf) -> Result<(), PageFault>
-    requires due { G.began_is_known ground.old → G.is_known ground.old × IsGroupDue (G.began ground.old) (G.last_done ground.old) (G.held ground.old).rows group.now }
-    ensures made { G.is_known ground.old → OnOk result (G.is_known ground.new × IsMade (G.held ground.old) (G.held ground.new) group.now) }
-    ensures cause { HasRedoCause (G.is_known ground.old) ((at : G) × G.follows ground.old at × (G.spare_after_savepoint at < 64)) (G.faults ground.old) (G.faults ground.new) result }
+    requires due { G.began_is_known ground.old
+        → G.is_known ground.old
+        × IsGroupDue (G.began ground.old) (G.last_done ground.old) (G.held ground.old).rows
+        group.now }
+    ensures made { G.is_known ground.old
+        → OnOk result
+        (G.is_known ground.new × IsMade (G.held ground.old) (G.held ground.new) group.now) }
+    ensures cause { HasRedoCause (G.is_known ground.old)
+        ((at : G) × G.follows ground.old at × (G.spare_after_savepoint at < 64))
+        (G.faults ground.old) (G.faults ground.new) result }
     ensures follows { G.follows ground.old ground.new }
 {
     let mut changes = changes_of(group.bytes());
@@ -52,7 +65,7 @@ fn redo_group<G: Ground>(ground: &mut G, group: &GroupBuf) -> Result<(), PageFau
     Ok(())
 }
 
-// Whether a commit of this number is behind those that are asked for.
+// Whether a commit of this number is past those that are asked for.
 fn is_behind(number: u64, until: Option<u64>) -> bool
     ensures allowed { OnFalse result (Allows until number) }
     ensures behind { OnTrue result (IsSomeAnd until (λ until. until < number)) }
@@ -70,11 +83,23 @@ fn redo_next<G: Ground>(
     group: &mut GroupBuf,
     until: Option<u64>,
 ) -> Result<Option<u64>, PageFault>
-    requires under { G.began_is_known ground.old → G.is_known ground.old × IsUnder (G.began ground.old) (G.held ground.old) (G.last_done ground.old) }
-    ensures next { G.is_known ground.old → IfOk result (λ number. G.is_known ground.new × IsNextRedone number until (G.held ground.old) (G.held ground.new)) }
-    ensures under { IfOk result (λ number. IfSome number (λ _. G.began_is_known ground.new → G.is_known ground.new × IsUnder (G.began ground.new) (G.held ground.new) (G.last_done ground.new))) }
-    ensures told { IfOk result (λ number. G.last_done ground.new ≡ unwrap_or number (G.last_done ground.old)) }
-    ensures cause { HasRedoCause (G.is_known ground.old) ((at : G) × G.comes_after ground.old at × (G.spare_after_savepoint at < 64)) (G.faults ground.old) (G.faults ground.new) result }
+    requires under { G.began_is_known ground.old
+        → G.is_known ground.old
+        × IsUnder (G.began ground.old) (G.held ground.old) (G.last_done ground.old) }
+    ensures next { G.is_known ground.old
+        → IfOk result
+        (λ number. G.is_known ground.new
+        × IsNextRedone number until (G.held ground.old) (G.held ground.new)) }
+    ensures under { IfOk result
+        (λ number. IfSome number
+        (λ _. G.began_is_known ground.new
+        → G.is_known ground.new
+        × IsUnder (G.began ground.new) (G.held ground.new) (G.last_done ground.new))) }
+    ensures told { IfOk result
+        (λ number. G.last_done ground.new ≡ unwrap_or number (G.last_done ground.old)) }
+    ensures cause { HasRedoCause (G.is_known ground.old)
+        ((at : G) × G.comes_after ground.old at × (G.spare_after_savepoint at < 64))
+        (G.faults ground.old) (G.faults ground.new) result }
     ensures comes { G.comes_after ground.old ground.new }
 {
     if !ground.next(group)? {
@@ -86,13 +111,9 @@ fn redo_next<G: Ground>(
     if is_behind(head.number, until) {
         return Ok(None);
     }
-    match redo_group(ground, group) {
-        Ok(()) => {
-            ground.done(head.number);
-            Ok(Some(head.number))
-        }
-        Err(fault) => Err(fault),
-    }
+    redo_group(ground, group)?;
+    ground.done(head.number);
+    Ok(Some(head.number))
 }
 
 // Whether the last commit that is asked for is set.
@@ -108,7 +129,7 @@ fn is_reached(last: Option<u64>, until: Option<u64>) -> bool
 /// Sets the commits of the log in order up to the number `until`, or all of them, and answers the
 /// number of the last one, none where it set none. `group` is the room for one group. Before each
 /// change it asks for room, and after each commit it says that it is done: so at each moment the
-/// rows with the commits behind the last one that is done are those with all of the log. What is
+/// rows with the commits after the last one that is done are those with all of the log. What is
 /// left of the log is not said; where the call fails, some of the commits are set, and of one more
 /// perhaps a part.
 pub fn redo<G: Ground>(
@@ -116,14 +137,27 @@ pub fn redo<G: Ground>(
     group: &mut GroupBuf,
     until: Option<u64>,
 ) -> Result<Option<u64>, PageFault>
-    requires began { G.began_is_known ground.old → G.is_known ground.old × (G.began ground.old ≡ G.held ground.old) }
-    requires last { G.began_is_known ground.old → G.last_done ground.old ≡ (G.held ground.old).log.after }
-    ensures rows { G.is_known ground.old → OnOk result (G.is_known ground.new
-        × ((G.held ground.new).rows ≡ with_commits (commits_upto until (G.held ground.old).log) (G.held ground.old).rows)
+    requires began { G.began_is_known ground.old
+        → G.is_known ground.old × (G.began ground.old ≡ G.held ground.old) }
+    requires last { G.began_is_known ground.old
+        → G.last_done ground.old ≡ (G.held ground.old).log.after }
+    ensures rows { G.is_known ground.old
+        → OnOk result
+        (G.is_known ground.new
+        × ((G.held ground.new).rows
+        ≡ with_commits (commits_upto until (G.held ground.old).log)
+        (G.held ground.old).rows)
         × ((G.held ground.new).undo ≡ (G.held ground.old).undo)) }
-    ensures last { G.is_known ground.old → IfOk result (λ last. last ≡ last_number (G.held ground.old).log.after (commits_upto until (G.held ground.old).log)) }
-    ensures told { IfOk result (λ last. G.last_done ground.new ≡ unwrap_or last (G.last_done ground.old)) }
-    ensures cause { HasRedoCause (G.is_known ground.old) ((at : G) × G.comes_after ground.old at × (G.spare_after_savepoint at < 64)) (G.faults ground.old) (G.faults ground.new) result }
+    ensures last { G.is_known ground.old
+        → IfOk result
+        (λ last. last
+        ≡ last_number (G.held ground.old).log.after
+        (commits_upto until (G.held ground.old).log)) }
+    ensures told { IfOk result
+        (λ last. G.last_done ground.new ≡ unwrap_or last (G.last_done ground.old)) }
+    ensures cause { HasRedoCause (G.is_known ground.old)
+        ((at : G) × G.comes_after ground.old at × (G.spare_after_savepoint at < 64))
+        (G.faults ground.old) (G.faults ground.new) result }
     ensures comes { G.comes_after ground.old ground.new }
 {
     let mut last = None;
@@ -131,10 +165,9 @@ pub fn redo<G: Ground>(
         if is_reached(last, until) {
             return Ok(last);
         }
-        match redo_next(ground, group, until) {
-            Ok(Some(number)) => last = Some(number),
-            Ok(None) => return Ok(last),
-            Err(fault) => return Err(fault),
+        match redo_next(ground, group, until)? {
+            Some(number) => last = Some(number),
+            None => return Ok(last),
         }
     }
     Ok(last)

@@ -1,4 +1,4 @@
--- Laws of the part behind the head.
+-- Laws of the part after the head.
 --     room_parts, high_slots, inserted      a cell put in
 --     cell_parts, low_slots, removed      a cell taken out
 use Rattle.std.proofs.Common.{◌≡◌, ℕ, suc, ◌+◌, ◌-◌, ◌*◌, ◌<◌, ◌≤◌, List, [], ◌∷◌, ◌++◌, length, take, drop, get_or, refl, sym, ap, ◌∙◌, arith, length-append, append_assoc}
@@ -88,7 +88,7 @@ place_fits body cs count i place n r =
     let w = r.within in
     (omega arith, omega arith, s)
 
--- the body in three parts: the cells with what is left, the slots from cell i on behind two zeros, and the slots before
+-- the body in three parts: the cells with what is left, the slots from cell i on after two zeros, and the slots before
 pub room_parts : (body : List ℕ) (cs : List (List ℕ)) (count i place n : ℕ) → HasRoom body cs count i place n
     → (take (length body - 2 * count - 2) body ≡ run cs ++ replicate (length body - used cs - 2) 0)
     × (drop (length body - 2 * count - 2) body ≡ (0 ∷ 0 ∷ slots (64 + place) (drop i cs)) ++ slots 64 (take i cs))
@@ -139,7 +139,7 @@ inserted body front high low cs count i place n c r len f h l =
 
 -- A cell taken out
 
--- the cells behind cell i
+-- the cells after cell i
 next : (i : ℕ) (cs : List (List ℕ)) → drop (suc i) cs ≡ drop (i + 1) cs
 next i cs = let e : suc i ≡ i + 1 = omega arith in ap (λ (n : ℕ). drop n cs) e
 

@@ -45,7 +45,7 @@ over_at n x old new y lx same =
     let l : length (x ++ old) ≡ n + length new = omega (arith, length-append x old) in
     rw (take_at x (old ++ y) n lx, ap (drop (n + length new)) whole ∙ drop_at (x ++ old) y (n + length new) l) refl
 
--- a number of two bytes behind a part of known length
+-- a number of two bytes after a part of known length
 pub two_behind : (n a : ℕ) (x y : List ℕ) → length x ≡ n → a < 2 ^ 16 → number_at 2 n (x ++ (big_bytes 2 a ++ y)) ≡ a
 unfolding number_at
 two_behind n a x y lx small = ap (big_number 2) (drop_at x (big_bytes 2 a ++ y) n lx) ∙ big_number-reads_back 2 a y small

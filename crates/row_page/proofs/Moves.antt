@@ -1,6 +1,6 @@
 -- Cells moved from one body to another.
 --     cut_fits, split_parts, kept_cells, moved_cells      a body that is cut
---     cells_parts, cells_ends, appended      cells put behind others
+--     cells_parts, cells_ends, appended      cells put after others
 use Rattle.std.proofs.Common.{◌≡◌, ℕ, ◌+◌, ◌-◌, ◌*◌, ◌^◌, ◌<◌, ◌≤◌, List, ◌++◌, length, take, drop, refl, sym, ap, ◌∙◌, arith, length-append, append_assoc}
 use Rattle.std.specs.Prelude.{replicate}
 use Rattle.std.proofs.lemmas.List.{drop_at, take_at, length-drop, length-take, take-replicate, drop-replicate}
@@ -8,7 +8,7 @@ use Rattle.row_page.specs.Page.{run, slots, body_of, used, HasCut, HasCells}
 use Rattle.row_page.proofs.Cells.{run-append, slots-append, length-slots}
 use Rattle.row_page.proofs.Bodies.{length-zeros, run_split, slots_split}
 
--- the parts of a body that is cut stand one behind the other
+-- the parts of a body that is cut stand one after the other
 pub cut_fits : (body : List ℕ) (cs : List (List ℕ)) (count i place size : ℕ) → HasCut body cs count i place size
     → (place ≤ size) × (length (run (drop i cs)) ≡ size - place) × (size + 2 * count ≤ length body) × (i ≤ count) × (length (drop i cs) ≡ count - i) × (64 + length body < 2 ^ 16)
 cut_fits body cs count i place size r =
@@ -96,7 +96,7 @@ moved_cells body other cells front back cs count i place size r o c f b =
     let n : m - (size - place) ≡ length body - used (drop i cs) = omega (arith, g) in
     append_assoc cells front back ∙ rw (c, b, z, n) refl
 
--- Cells put behind others
+-- Cells put after others
 
 -- a body of cells in three parts
 pub cells_parts : (body rest middle low : List ℕ) (cs : List (List ℕ)) (count size : ℕ) → HasCells body cs count size
@@ -132,7 +132,7 @@ cells_ends body cs count size r =
       ap (drop n) (r.bytes ∙ sym (append_assoc (run cs) z (slots 64 cs))) ∙ drop_at (run cs ++ z) (slots 64 cs) n l,
     )
 
--- the parts after cells were put behind others
+-- the parts after cells were put after others
 pub appended : (body first middle low cells front back : List ℕ) (cs ds : List (List ℕ)) (count size other_count other_size : ℕ) → HasCells body cs count size → other_count ≡ length ds → other_size ≡ length (run ds)
     → used cs + used ds ≤ length body → first ≡ run cs → middle ≡ replicate (length body - used cs) 0 → low ≡ slots 64 cs
     → cells ≡ run ds → front ≡ drop other_size (take (length body - size - 2 * count - 2 * other_count) middle) → back ≡ slots (64 + size) ds

@@ -32,7 +32,7 @@ less_upto es m key up lt h k below =
       | inr g ↦ let e : m ≡ k = omega arith in subst (λ (n : ℕ). by_bytes (key_at es n) key ≡ Less) e h
     ]
 
--- where an entry is greater than a key, those behind it are
+-- where an entry is greater than a key, those after it are
 pub greater_from : (es : List Entry) (m : ℕ) (key : List ℕ) → Ascend es → m < length es → by_bytes (key_at es m) key ≡ Greater
     → (k : ℕ) → m ≤ k → k < length es → by_bytes (key_at es k) key ≡ Greater
 greater_from es m key up lt h k from within =

@@ -131,7 +131,7 @@ pub key_within : (leaf : Bool) (e : Entry) → KeepsEntry leaf e → 6 + length 
 key_within true e k = omega arith
 key_within false e k = let r = k.1 in omega arith
 
--- a number of two bytes at a slot, and the key behind it
+-- a number of two bytes at a slot, and the key after it
 pub key_len_is : (page : List ℕ) (h : Head) (es : List Entry) (i at : ℕ) → Shows page h es → i < length es → at ≡ 64 + length (run (take i (cells (is_leaf h) es)))
     → (number_at 2 at page ≡ length (key_at es i)) × (at + 6 + length (key_at es i) ≤ 8192)
 unfolding number_at

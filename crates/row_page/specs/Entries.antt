@@ -5,7 +5,9 @@
 --     head_of, entries_of      what the bytes of a page say
 --     IsPage, Becomes      bytes are a page; a page was changed to these entries
 --     HasKey, IsPlaceFor      a key stands at a place, or would stand there
-use Rattle.std.specs.Prelude.{◌≡◌, ℕ, zero, suc, ◌+◌, ◌^◌, ◌<◌, ◌≤◌, ◌⊎◌, Bool, true, false, List, [], ◌∷◌, ◌++◌, length, map, take, drop, slice_index_or, nat_eq, ◌==◌, if◌then◌else◌, sum_by}
+use Rattle.std.specs.Prelude.{◌≡◌, ℕ, ◌+◌, ◌^◌, ◌<◌, ◌≤◌, ◌⊎◌, [], ◌∷◌, ◌++◌, ◌==◌, if◌then◌else◌}
+use Rattle.std.specs.Prelude.{zero, suc, Bool, true, false, List, length, map, take, drop}
+use Rattle.std.specs.Prelude.{slice_index_or, nat_eq, sum_by}
 use Rattle.std.specs.Cmp.Lexicographic.{slice_cmp}
 use Rattle.std.specs.Ordering.{nat_cmp}
 use Rattle.std.specs.declared.cmp.Ordering.{Ordering}
@@ -30,7 +32,8 @@ pub record Head : Type 0 where
 
 -- the length of the key, four bytes, the key, and what follows it
 unfoldable pub cell_of : Bool → Entry → List ℕ
-cell_of true e = big_bytes 2 (length e.key) ++ (big_bytes 2 (length e.rest) ++ (0 ∷ 0 ∷ [] ++ (e.key ++ e.rest)))
+cell_of true e =
+    big_bytes 2 (length e.key) ++ (big_bytes 2 (length e.rest) ++ (0 ∷ 0 ∷ [] ++ (e.key ++ e.rest)))
 cell_of false e = big_bytes 2 (length e.key) ++ (e.rest ++ e.key)
 
 abbrev pub cell_len : Bool → Entry → ℕ
@@ -55,7 +58,9 @@ head_fields h count total = header_fields h.kind h.level h.table h.own count tot
 
 -- the bytes of a page
 unfoldable pub page_of : Head → List Entry → List ℕ
-page_of h es = spelled (head_fields h (length es) (used (cells (is_leaf h) es))) ++ body_of 8128 (cells (is_leaf h) es)
+page_of h es =
+    spelled (head_fields h (length es) (used (cells (is_leaf h) es)))
+    ++ body_of 8128 (cells (is_leaf h) es)
 
 abbrev pub no_entry : Entry
 no_entry = record { key = []; rest = [] }
@@ -72,9 +77,11 @@ by_bytes a b = slice_cmp nat_cmp a b
 abbrev pub Ascend : List Entry → Type 0
 Ascend es = (i j : ℕ) → i < j → j < length es → by_bytes (key_at es i) (key_at es j) ≡ Less
 
--- the limits of a row, which has a key and costs at most 2,000 bytes, and of a separator with its child
+-- the limits of a row, which has a key and costs at most 2,000 bytes, and of a separator with its
+-- child
 abbrev pub KeepsEntry : Bool → Entry → Type 0
-KeepsEntry true e = (1 ≤ length e.key) × (length e.key ≤ 256) × (8 + length e.key + length e.rest ≤ 2000)
+KeepsEntry true e =
+    (1 ≤ length e.key) × (length e.key ≤ 256) × (8 + length e.key + length e.rest ≤ 2000)
 KeepsEntry false e = (length e.key ≤ 256) × (length e.rest ≡ 4)
 
 abbrev pub AllKept : Bool → List Entry → Type 0
@@ -82,7 +89,8 @@ AllKept leaf es = (i : ℕ) → i < length es → KeepsEntry leaf (slice_index_o
 
 -- a row leaf, on level 0, or an index page, which has no next page
 pub record IsHead (h : Head) : Type 0 where
-  pub kind : ((h.kind ≡ 1) × (h.level ≡ 0)) ⊎ ((h.kind ≡ 2) × (1 ≤ h.level) × (h.level ≤ 7) × (h.next ≡ 0))
+  pub kind : ((h.kind ≡ 1) × (h.level ≡ 0))
+      ⊎ ((h.kind ≡ 2) × (1 ≤ h.level) × (h.level ≤ 7) × (h.next ≡ 0))
   pub table : (1 ≤ h.table) × (h.table ≤ 500)
   pub own : h.own < 2 ^ 32
   pub next : h.next < 2 ^ 32
@@ -94,16 +102,29 @@ pub record AreEntries (leaf : Bool) (es : List Entry) : Type 0 where
 
 -- the entry at the front of a run of cells
 abbrev pub front_entry : Bool → List ℕ → Entry
-front_entry true bytes = record { key = take (number_at 2 0 bytes) (drop 6 bytes); rest = take (number_at 2 2 bytes) (drop (6 + number_at 2 0 bytes) bytes) }
-front_entry false bytes = record { key = take (number_at 2 0 bytes) (drop 6 bytes); rest = take 4 (drop 2 bytes) }
+front_entry true bytes =
+    record {
+      key = take (number_at 2 0 bytes) (drop 6 bytes);
+      rest = take (number_at 2 2 bytes) (drop (6 + number_at 2 0 bytes) bytes);
+    }
+front_entry false bytes =
+    record { key = take (number_at 2 0 bytes) (drop 6 bytes); rest = take 4 (drop 2 bytes) }
 
 abbrev pub read_cells : Bool → ℕ → List ℕ → List Entry
 read_cells leaf zero bytes = []
-read_cells leaf (suc n) bytes = front_entry leaf bytes ∷ read_cells leaf n (drop (cell_len leaf (front_entry leaf bytes)) bytes)
+read_cells leaf (suc n) bytes =
+    front_entry leaf bytes ∷ read_cells leaf n (drop (cell_len leaf (front_entry leaf bytes)) bytes)
 
 -- what the bytes of a page say
 unfoldable pub head_of : List ℕ → Head
-head_of page = record { kind = number_at 1 0 page; level = number_at 1 1 page; table = number_at 2 2 page; own = number_at 4 4 page; next = number_at 4 12 page }
+head_of page =
+    record {
+      kind = number_at 1 0 page;
+      level = number_at 1 1 page;
+      table = number_at 2 2 page;
+      own = number_at 4 4 page;
+      next = number_at 4 12 page;
+    }
 
 unfoldable pub entries_of : List ℕ → List Entry
 entries_of page = read_cells (is_leaf (head_of page)) (number_at 2 8 page) (drop 64 page)

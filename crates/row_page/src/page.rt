@@ -1,8 +1,11 @@
 //! A page as a sorted list of entries: rows on a leaf, separators with their children above.
-ghost use Rattle.std.specs.Prelude.{◌≡◌, ◌+◌, ◌<◌, ◌≤◌, ℕ, List, [], ◌++◌, length, take, drop, Bool, true, false, Result, MatchResult, IsTrue};
+ghost use Rattle.std.specs.Prelude.{◌≡◌, ◌+◌, ◌<◌, ◌≤◌, ℕ, [], ◌++◌};
+ghost use Rattle.std.specs.Prelude.{List, length, take, drop, Bool, true, false, Result};
+ghost use Rattle.std.specs.Prelude.{MatchResult, IsTrue};
 ghost use Rattle.std.specs.List.{insert, remove};
 ghost use Rattle.std.specs.declared.cmp.Ordering.TheVariants.{Less};
 ghost use Rattle.mdb_model.specs.Script.{is_table};
+ghost use Rattle.mdb_model.specs.declared.limits.TheConstants.{PAGE_ROOM};
 ghost use Rattle.row_page.specs.Page.{run, used};
 ghost use Rattle.row_page.specs.Entries.{
   Entry,
@@ -26,13 +29,14 @@ ghost use Rattle.row_page.specs.Entries.{
 };
 
 use crate::body::{append_cells, insert_cell, remove_cell, split_cells};
-use crate::parts::{write_four, write_head, write_two};
+use crate::parts::{HEAD_BYTES, write_four, write_head, write_two};
 use mdb_bytes::{byte_at, u16_at, u32_at};
+use mdb_model::limits::PAGE_BYTES;
 use mdb_model::name::Table;
 use std::cmp::Ordering;
 
 /// The number of entries.
-pub fn count_of(page: &[u8; 8192]) -> usize
+pub fn count_of(page: &[u8; PAGE_BYTES]) -> usize
     requires { IsPage page.now }
     ensures { result ≡ length (entries_of page.now) }
 {
@@ -40,7 +44,7 @@ pub fn count_of(page: &[u8; 8192]) -> usize
 }
 
 // The bytes of the cells and of their slots.
-fn cells_used(page: &[u8; 8192]) -> usize
+fn cells_used(page: &[u8; PAGE_BYTES]) -> usize
     requires { IsPage page.now }
     ensures { result ≡ used (cells_of page.now) }
 {
@@ -49,7 +53,7 @@ fn cells_used(page: &[u8; 8192]) -> usize
 
 /// The bytes that its entries take, at most 8,128: for each row `8 + key + value`, for each child
 /// `8 + key`.
-pub fn used_of(page: &[u8; 8192]) -> usize
+pub fn used_of(page: &[u8; PAGE_BYTES]) -> usize
     requires { IsPage page.now }
     ensures { result ≡ cost_of page.now }
 {
@@ -58,7 +62,7 @@ pub fn used_of(page: &[u8; 8192]) -> usize
 
 /// Whether it is a row leaf, and not an index page.
 #[tactic(auto, unfolding(crate::specs::Entries::head_of))]
-pub fn is_row_leaf(page: &[u8; 8192]) -> bool
+pub fn is_row_leaf(page: &[u8; PAGE_BYTES]) -> bool
     ensures { result ≡ is_leaf (head_of page.now) }
 {
     byte_at(page, 0) == 1
@@ -66,7 +70,7 @@ pub fn is_row_leaf(page: &[u8; 8192]) -> bool
 
 /// Its level: 0 of a row leaf, 1 to 7 of an index page.
 #[tactic(auto, unfolding(crate::specs::Entries::head_of))]
-pub fn level_of(page: &[u8; 8192]) -> u8
+pub fn level_of(page: &[u8; PAGE_BYTES]) -> u8
     ensures { result ≡ (head_of page.now).level }
 {
     byte_at(page, 1)
@@ -74,23 +78,23 @@ pub fn level_of(page: &[u8; 8192]) -> u8
 
 /// The page that its header names as the next one, 0 for none. An index page names none.
 #[tactic(auto, unfolding(crate::specs::Entries::head_of))]
-pub fn next_of(page: &[u8; 8192]) -> u32
+pub fn next_of(page: &[u8; PAGE_BYTES]) -> u32
     ensures { result ≡ (head_of page.now).next }
 {
     u32_at(page, 12)
 }
 
 // Where entry i begins.
-fn slot_at(page: &[u8; 8192], i: usize) -> usize
+fn slot_at(page: &[u8; PAGE_BYTES], i: usize) -> usize
     requires page { IsPage page.now }
     requires within { i < length (entries_of page.now) }
     ensures { result ≡ 64 + length (run (take i (cells_of page.now))) }
 {
-    u16_at(page, 8190 - 2 * i) as usize
+    u16_at(page, PAGE_BYTES - 2 - 2 * i) as usize
 }
 
 /// The key of entry i.
-pub fn key_of(page: &[u8; 8192], i: usize) -> &[u8]
+pub fn key_of(page: &[u8; PAGE_BYTES], i: usize) -> &[u8]
     requires page { IsPage page.now }
     requires within { i < length (entries_of page.now) }
     ensures { result.now ≡ key_at (entries_of page.now) i }
@@ -103,9 +107,10 @@ pub fn key_of(page: &[u8; 8192], i: usize) -> &[u8]
 
 /// The place of the entry with this key; where there is none, the place where it would stand. It
 /// looks at no more keys than the number of entries has binary digits.
-pub fn find(page: &[u8; 8192], key: &[u8]) -> Result<usize, usize>
+pub fn find(page: &[u8; PAGE_BYTES], key: &[u8]) -> Result<usize, usize>
     requires { IsPage page.now }
-    ensures { MatchResult result (HasKey (entries_of page.now) key.now) (IsPlaceFor (entries_of page.now) key.now) }
+    ensures { MatchResult result (HasKey (entries_of page.now) key.now)
+        (IsPlaceFor (entries_of page.now) key.now) }
 {
     let mut low = 0;
     let mut high = count_of(page);
@@ -133,41 +138,45 @@ fn size_of(leaf: bool, key: &[u8], rest: &[u8]) -> usize
 }
 
 // Where cell i begins or would begin, counted from the first.
-fn place_of(page: &[u8; 8192], i: usize) -> usize
+fn place_of(page: &[u8; PAGE_BYTES], i: usize) -> usize
     requires page { IsPage page.now }
     requires within { i ≤ length (entries_of page.now) }
     ensures { result ≡ length (run (take i (cells_of page.now))) }
 {
     let count = count_of(page);
     if i < count {
-        slot_at(page, i) - 64
+        slot_at(page, i) - HEAD_BYTES
     } else {
         cells_used(page) - 2 * count
     }
 }
 
-/// Puts an entry in at the place that `find` tells for its key. `rest` is the value of the row, or
-/// the four bytes of the child on an index page.
-pub fn insert(page: &mut [u8; 8192], at: usize, key: &[u8], rest: &[u8])
+/// Puts an entry in at the place that `find` answers for its key. `rest` is the value of the row,
+/// or the four bytes of the child on an index page.
+pub fn insert(page: &mut [u8; PAGE_BYTES], at: usize, key: &[u8], rest: &[u8])
     requires page { IsPage page.old }
     requires place { IsPlaceFor (entries_of page.old) key.now at }
-    requires kept { KeepsEntry (is_leaf (head_of page.old)) (record { key = key.now; rest = rest.now }) }
-    requires fits { cost_of page.old + entry_cost (is_leaf (head_of page.old)) (record { key = key.now; rest = rest.now }) ≤ 8128 }
-    ensures { Becomes page.old page.new (insert (entries_of page.old) at (record { key = key.now; rest = rest.now })) }
+    requires kept { KeepsEntry (is_leaf (head_of page.old))
+        (record { key = key.now; rest = rest.now }) }
+    requires fits { cost_of page.old
+        + entry_cost (is_leaf (head_of page.old)) (record { key = key.now; rest = rest.now })
+        ≤ PAGE_ROOM }
+    ensures { Becomes page.old page.new
+        (insert (entries_of page.old) at (record { key = key.now; rest = rest.now })) }
 {
     let leaf = is_row_leaf(page);
     let count = count_of(page);
     let total = cells_used(page);
     let n = size_of(leaf, key, rest);
     let place = place_of(page, at);
-    let (head, body) = page.split_at_mut(64);
+    let (head, body) = page.split_at_mut(HEAD_BYTES);
     insert_cell(body, count, at, place, n, leaf, key, rest);
     write_two(head, 8, (count + 1) as u16);
     write_two(head, 10, (total + n + 2) as u16);
 }
 
 // The bytes of cell i.
-fn cell_size(page: &[u8; 8192], i: usize) -> usize
+fn cell_size(page: &[u8; PAGE_BYTES], i: usize) -> usize
     requires page { IsPage page.now }
     requires within { i < length (entries_of page.now) }
     ensures { result ≡ cell_len (is_leaf (head_of page.now)) (entry_at (entries_of page.now) i) }
@@ -176,7 +185,7 @@ fn cell_size(page: &[u8; 8192], i: usize) -> usize
 }
 
 /// Takes entry i out.
-pub fn remove(page: &mut [u8; 8192], at: usize)
+pub fn remove(page: &mut [u8; PAGE_BYTES], at: usize)
     requires page { IsPage page.old }
     requires within { at < length (entries_of page.old) }
     ensures { Becomes page.old page.new (remove (entries_of page.old) at) }
@@ -185,14 +194,14 @@ pub fn remove(page: &mut [u8; 8192], at: usize)
     let total = cells_used(page);
     let n = cell_size(page, at);
     let place = place_of(page, at);
-    let (head, body) = page.split_at_mut(64);
+    let (head, body) = page.split_at_mut(HEAD_BYTES);
     remove_cell(body, count, at, place, n);
     write_two(head, 8, (count - 1) as u16);
     write_two(head, 10, (total - n - 2) as u16);
 }
 
 /// The page below entry i of an index page.
-pub fn child_of(page: &[u8; 8192], i: usize) -> u32
+pub fn child_of(page: &[u8; PAGE_BYTES], i: usize) -> u32
     requires page { IsPage page.now }
     requires index { is_leaf (head_of page.now) ≡ false }
     requires within { i < length (entries_of page.now) }
@@ -202,7 +211,7 @@ pub fn child_of(page: &[u8; 8192], i: usize) -> u32
 }
 
 /// The value of row i of a row leaf.
-pub fn value_of(page: &[u8; 8192], i: usize) -> &[u8]
+pub fn value_of(page: &[u8; PAGE_BYTES], i: usize) -> &[u8]
     requires page { IsPage page.now }
     requires leaf { is_leaf (head_of page.now) ≡ true }
     requires within { i < length (entries_of page.now) }
@@ -216,7 +225,7 @@ pub fn value_of(page: &[u8; 8192], i: usize) -> &[u8]
 }
 
 /// Moves the entries from place `at` on to a page of the same kind that has none.
-pub fn split(from: &mut [u8; 8192], to: &mut [u8; 8192], at: usize)
+pub fn split(from: &mut [u8; PAGE_BYTES], to: &mut [u8; PAGE_BYTES], at: usize)
     requires from { IsPage from.old }
     requires to { IsPage to.old }
     requires empty { length (entries_of to.old) ≡ 0 }
@@ -228,8 +237,8 @@ pub fn split(from: &mut [u8; 8192], to: &mut [u8; 8192], at: usize)
     let count = count_of(from);
     let size = cells_used(from) - 2 * count;
     let place = place_of(from, at);
-    let (from_head, from_body) = from.split_at_mut(64);
-    let (to_head, to_body) = to.split_at_mut(64);
+    let (from_head, from_body) = from.split_at_mut(HEAD_BYTES);
+    let (to_head, to_body) = to.split_at_mut(HEAD_BYTES);
     split_cells(from_body, to_body, count, at, place, size);
     write_two(from_head, 8, at as u16);
     write_two(from_head, 10, (place + 2 * at) as u16);
@@ -238,23 +247,24 @@ pub fn split(from: &mut [u8; 8192], to: &mut [u8; 8192], at: usize)
 }
 
 /// Takes all entries out.
-pub fn clear(page: &mut [u8; 8192])
+pub fn clear(page: &mut [u8; PAGE_BYTES])
     requires { IsPage page.old }
     ensures { Becomes page.old page.new [] }
 {
-    let (head, body) = page.split_at_mut(64);
+    let (head, body) = page.split_at_mut(HEAD_BYTES);
     body.fill(0);
     write_two(head, 8, 0);
     write_two(head, 10, 0);
 }
 
-/// Moves the entries of another page of the same kind behind those of this one.
-pub fn merge(into: &mut [u8; 8192], from: &mut [u8; 8192])
+/// Moves the entries of another page of the same kind after those of this one.
+pub fn merge(into: &mut [u8; PAGE_BYTES], from: &mut [u8; PAGE_BYTES])
     requires into { IsPage into.old }
     requires from { IsPage from.old }
     requires kinds { is_leaf (head_of from.old) ≡ is_leaf (head_of into.old) }
-    requires room { cost_of into.old + cost_of from.old ≤ 8128 }
-    requires below { (i j : ℕ) → i < length (entries_of into.old) → j < length (entries_of from.old) → by_bytes (key_at (entries_of into.old) i) (key_at (entries_of from.old) j) ≡ Less }
+    requires room { cost_of into.old + cost_of from.old ≤ PAGE_ROOM }
+    requires below { (i j : ℕ) → i < length (entries_of into.old) → j < length (entries_of from.old)
+        → by_bytes (key_at (entries_of into.old) i) (key_at (entries_of from.old) j) ≡ Less }
     ensures first { Becomes into.old into.new (entries_of into.old ++ entries_of from.old) }
     ensures second { Becomes from.old from.new [] }
 {
@@ -262,8 +272,8 @@ pub fn merge(into: &mut [u8; 8192], from: &mut [u8; 8192])
     let total = cells_used(into);
     let other_count = count_of(from);
     let other_total = cells_used(from);
-    let (head, body) = into.split_at_mut(64);
-    let (_, other) = from.split_at(64);
+    let (head, body) = into.split_at_mut(HEAD_BYTES);
+    let (_, other) = from.split_at(HEAD_BYTES);
     append_cells(
         body,
         other,
@@ -286,26 +296,27 @@ fn kind_for(level: u8) -> u8
 
 /// Makes a page without entries, whatever stood there: a row leaf on level 0, and an index page
 /// above. `own` is the number of the page.
-pub fn start(page: &mut [u8; 8192], level: u8, table: Table, own: u32)
+pub fn start(page: &mut [u8; PAGE_BYTES], level: u8, table: Table, own: u32)
     requires level { level ≤ 7 }
     requires table { IsTrue (is_table table.0) }
     ensures page { IsPage page.new }
-    ensures head { head_of page.new ≡ record { kind = kind_on level; level = level; table = table.0; own = own; next = 0 } }
+    ensures head { head_of page.new
+        ≡ record { kind = kind_on level; level = level; table = table.0; own = own; next = 0 } }
     ensures empty { entries_of page.new ≡ [] }
 {
-    let (head, body) = page.split_at_mut(64);
+    let (head, body) = page.split_at_mut(HEAD_BYTES);
     write_head(head, kind_for(level), level, table.0, own);
     body.fill(0);
 }
 
 /// Sets the page that a row leaf names as the next one, 0 for none.
-pub fn set_next(page: &mut [u8; 8192], next: u32)
+pub fn set_next(page: &mut [u8; PAGE_BYTES], next: u32)
     requires page { IsPage page.old }
     requires leaf { is_leaf (head_of page.old) ≡ true }
     ensures page { IsPage page.new }
     ensures head { head_of page.new ≡ record (head_of page.old) { next = next } }
     ensures entries { entries_of page.new ≡ entries_of page.old }
 {
-    let (head, _body) = page.split_at_mut(64);
+    let (head, _body) = page.split_at_mut(HEAD_BYTES);
     write_four(head, 12, next);
 }

@@ -1,5 +1,6 @@
 //! Edits of a part of a page.
-ghost use Rattle.std.specs.Prelude.{◌≡◌, ◌+◌, ◌*◌, ◌<◌, ◌≤◌, ◌^◌, ℕ, List, length, Bool, true, false};
+ghost use Rattle.std.specs.Prelude.{◌≡◌, ◌+◌, ◌*◌, ◌<◌, ◌≤◌, ◌^◌, ℕ};
+ghost use Rattle.std.specs.Prelude.{List, length, Bool, true, false};
 ghost use Rattle.byteorder.specs.Endian.{big_bytes};
 ghost use Rattle.mdb_bytes.specs.Fields.{number_at, spelled};
 ghost use Rattle.mdb_bytes.specs.LogicalPages.{header_fields};
@@ -8,6 +9,10 @@ ghost use Rattle.row_page.specs.Entries.{cell_of, cell_len, Entry, KeepsEntry};
 
 use byteorder::{BigEndian, ByteOrder};
 use mdb_bytes::u16_at;
+use mdb_model::limits::{PAGE_BYTES, PAGE_ROOM};
+
+/// Bytes of the header of a page.
+pub const HEAD_BYTES: usize = PAGE_BYTES - PAGE_ROOM;
 
 /// Writes the cell of a row.
 #[tactic(auto, unfolding(crate::specs::Entries::cell_of))]
@@ -59,7 +64,8 @@ pub fn open_cell(part: &mut [u8], at: usize, n: usize, leaf: bool, key: &[u8], r
     requires kept { KeepsEntry leaf (record { key = key.now; rest = rest.now }) }
     requires size { n ≡ cell_len leaf (record { key = key.now; rest = rest.now }) }
     requires room { at + n ≤ length part.old }
-    ensures { part.new ≡ opened at (cell_of leaf (record { key = key.now; rest = rest.now })) part.old }
+    ensures { part.new
+        ≡ opened at (cell_of leaf (record { key = key.now; rest = rest.now })) part.old }
 {
     let end = part.len() - n;
     part.copy_within(at..end, at + n);
@@ -110,8 +116,10 @@ pub fn write_head(head: &mut [u8], kind: u8, level: u8, table: u16, own: u32)
 
 /// Makes the slots of cells that begin at one place those of the same cells at another place.
 pub fn move_slots(part: &mut [u8], from: usize, to: usize)
-    requires { (cs : List (List ℕ)) × (part.old ≡ slots from cs) × (from + length (run cs) < 2 ^ 16) × (to + length (run cs) < 2 ^ 16) }
-    ensures { (cs : List (List ℕ)) → part.old ≡ slots from cs → from + length (run cs) < 2 ^ 16 → to + length (run cs) < 2 ^ 16 → part.new ≡ slots to cs }
+    requires { (cs : List (List ℕ)) × (part.old ≡ slots from cs) × (from + length (run cs) < 2 ^ 16)
+        × (to + length (run cs) < 2 ^ 16) }
+    ensures { (cs : List (List ℕ)) → part.old ≡ slots from cs → from + length (run cs) < 2 ^ 16
+        → to + length (run cs) < 2 ^ 16 → part.new ≡ slots to cs }
 {
     let count = part.len() / 2;
     for k in 0..count {

@@ -1,5 +1,5 @@
 -- One leaf more.
-use Rattle.std.proofs.Common.{◌≡◌, ◌⊎◌, inl, inr, ℕ, ◌+◌, ◌<◌, List, length, Bool, refl, ap, sym, subst, ◌∙◌, arith}
+use Rattle.std.proofs.Common.{◌≡◌, inl, inr, ℕ, ◌+◌, ◌<◌, List, length, Bool, refl, ap, sym, subst, ◌∙◌, arith}
 use Rattle.std.specs.Prelude.{sum, Result, Ok, Err, OnOk}
 use Rattle.mdb_model.specs.declared.fault.Device.TheVariants.{Data}
 use Rattle.mdb_model.specs.Images.{Image}
@@ -122,7 +122,7 @@ goes_agree sizes set d0 d1 d2 one two = calmly d0 d1 d2 (Writes sizes set) (λ a
 pub writes_then_agree : (sizes : List ℕ) (set : ℕ → Type 0) (a b c : Image) → Writes sizes set a b → Agree b c → Writes sizes set a c
 writes_then_agree sizes set a b c writes agree = writes_on sizes set a b c writes (writes_agree sizes set b c agree)
 
--- with the root on a block that was free, each block of the frozen map is behind the first two
+-- with the root on a block that was free, each block of the frozen map is after the first two
 pub all_placed : (sizes : List ℕ) (m next : Maps) (f less : List Bool) → IsSound next → AreUnused m f → sum sizes ≡ length next.owner → OneOwn m next f less 0 → IsFree f (block_of next.frozen 0)
     → ((q : ℕ) → 0 < q → q < m.conv → 1 < block_of m.frozen q) → IsPlaced sizes next.frozen next.conv
 all_placed sizes m next f less sound unused area one free placed = record {

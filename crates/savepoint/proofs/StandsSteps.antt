@@ -62,7 +62,7 @@ first_few : (sizes : List ℕ) (n : ℕ) → n ≤ get_or sizes 0 0 → n ≤ su
 first_few [] n le = le
 first_few (x ∷ xs) n le = let s = sum_by-cons (λ (k : ℕ). k) x xs in omega (arith, le, s)
 
--- writes behind the first two blocks leave the slots
+-- writes after the first two blocks leave the slots
 pub slots_stay : (sizes : List ℕ) (set : ℕ → Type 0) (a b : Image) → ((c : ℕ) → set c → 1 < c) → Writes sizes set a b → 2 ≤ get_or sizes 0 0 → KeepsSlots a b
 slots_stay sizes set a b high writes big = record {
   force = force_bytes restart_place a b same;

@@ -15,10 +15,12 @@ pub record Along (first now : Maps) (flags left : List Bool) (n : ℕ) : Type 0 
   pub unused : AreUnused now left
   pub later : (q : ℕ) → n < q → entry_at now.frozen q ≡ entry_at first.frozen q
   pub placed : (q : ℕ) → 0 < q → q ≤ n → 1 < block_of now.frozen q
-  pub taken : (b : ℕ) → IsFree flags b → IsFree left b ⊎ ((q : ℕ) × (0 < q) × (q ≤ n) × (block_of now.frozen q ≡ b))
+  pub taken : (b : ℕ) → IsFree flags b
+      → IsFree left b ⊎ ((q : ℕ) × (0 < q) × (q ≤ n) × (block_of now.frozen q ≡ b))
 
 -- the devices, after n leaves
-pub record Wrote (sizes : List ℕ) (flags : List Bool) (m : Maps) (n : ℕ) (old new : Disk) : Type 0 where
+pub record Wrote (sizes : List ℕ) (flags : List Bool) (m : Maps) (n : ℕ)
+    (old new : Disk) : Type 0 where
   pub goes : Goes old new (Writes sizes (IsFree flags))
   pub seen : Writes sizes (IsFree flags) old.seen new.seen
   pub held : LeavesHeld m n (block_at sizes new.seen)

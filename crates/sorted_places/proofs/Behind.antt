@@ -1,5 +1,5 @@
--- The first item of a table behind a key, in a list whose places ascend.
---     past-at, past-gap      where the items behind a place begin
+-- The first item of a table after a key, in a list whose places ascend.
+--     past-at, past-gap      where the items after a place begin
 --     next-here, next-other, next-past      the item there is the first of the table, or there is none
 use Rattle.std.proofs.Common.{◌≡◌, refl, sym, ap, ◌∙◌, ℕ, zero, suc, ◌+◌, ◌<◌, ◌≤◌, List, [], ◌∷◌, map, length, get_or, None, IsTrue, true, arith}
 use Rattle.std.specs.declared.cmp.Ordering.{Ordering}
@@ -69,7 +69,7 @@ module _ {X : Type 0} (key : X → Place) (xs : List X) (t : ℕ) (after : List 
         by_side Greater high = omega (arith, before, high)
 
   module _ (i : ℕ) (past : IsPast key xs t after i) where
-    -- a key behind is above the items before the index
+    -- a key after is above the items before the index
     lower_too : (k : List ℕ) → IsTrue (is_before after k) → (j : ℕ) (d : X) → j < i → place_cmp (key (get_or xs j d)) (t, k) ≡ Less
     lower_too k behind j d before = by_order (place_cmp (key (get_or xs j d)) (t, after)) refl where
       above : place_cmp (t, after) (t, k) ≡ Less

@@ -1,4 +1,4 @@
--- The first row of a table behind a key.
+-- The first row of a table after a key.
 --     first_of_next, next_of_first      the first of the entries is the first by its keys, and the other way round
 use Rattle.std.proofs.Common.{◌≡◌, refl, sym, ap, ◌∙◌, subst, ℕ, ◌<◌, Bool, true, false, ◌&&◌, ◌==◌, cond, T, List, [], ◌∷◌, Option, Some, None, option_map, unwrap_or, IsTrue, arith}
 use Rattle.std.proofs.lemmas.Bool.{eqb-true, eq-eqb}
@@ -68,11 +68,11 @@ same-table t k p same lower = by_table (nat_cmp t p.0) (ranks t p.0) where
   by_table Greater is = absurd (omega (arith, is, same))
 
 module _ (t : ℕ) (after : List ℕ) where
-  -- an entry of the table, behind the key
+  -- an entry of the table, after the key
   abbrev wanted : Place × List ℕ → Bool
   wanted e = (e.0.0 == t) && is_before after e.0.1
 
-  -- an entry that is not wanted is not that of a key behind
+  -- an entry that is not wanted is not that of a key after
   miss : (e : Place × List ℕ) (es : List (Place × List ℕ)) (k : List ℕ) → wanted e ≡ false → IsTrue (is_before after k) → fin.find place_cmp (t, k) (e ∷ es) ≡ fin.find place_cmp (t, k) es
   miss e es k fails behind = by_order (place_cmp (t, k) e.0) refl where
     by_order : (o : Ordering) → place_cmp (t, k) e.0 ≡ o → cond (is_eq o) (Some e.1) (fin.find place_cmp (t, k) es) ≡ fin.find place_cmp (t, k) es

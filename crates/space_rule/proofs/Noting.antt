@@ -22,7 +22,7 @@ use Rattle.space_rule.specs.Told.{changes_at, growth_on, growth_of, cost_of, pag
 use Rattle.space_rule.specs.Weighing.{AreSums, IsInOrder, lists}
 use Rattle.space_rule.proofs.Sums.{growth-set, growth-noted, undo-set, session_in, pages-at, table_in}
 
--- the length before is kept as it is told
+-- the length before is kept as it is known
 pub before-is : (change : Change) (before : Option ℕ) → (opened change before).before ≡ before
 before-is (Put table key value) before = refl
 before-is (Del table key) before = refl

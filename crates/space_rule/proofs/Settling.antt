@@ -1,4 +1,4 @@
--- The sums after the last change of a session ended, and after a table's cost was told.
+-- The sums after the last change of a session ended, and after a table's cost was set.
 --     settled_push      committed changes, the last one first
 --     after-settle      the running sums without the last change
 --     after-load      the running sums with another committed cost, where no change is open

@@ -1,10 +1,10 @@
--- A `Space` as what it has been told.
+-- A `Space` as what it knows.
 use Rattle.std.specs.Prelude.{option_map}
 use Rattle.space_rule.specs.declared.space.Space.{Space}
 use Rattle.space_rule.specs.Told.{Told}
 use Rattle.space_rule.specs.Weighing.{lists}
 
--- what it has been told
+-- what it knows
 abbrev pub told_of : Space → Told
 told_of space = record {
   blocks = space.blocks;

@@ -1,8 +1,10 @@
--- What the space rule has been told, and the need that follows from it.
+-- What the space rule knows, and the need that follows from it.
 --     Told      the blocks, the committed costs of the tables, the changes that are not committed
 --     cost_of, pages_of, undo_of, size_of, need_of      the sums of the space rule, from scratch
---     noted, ended, prepared_for, loaded, with_area      what is told by each call
-use Rattle.std.specs.Prelude.{ℕ, ◌+◌, ◌-◌, ◌*◌, List, [], ◌∷◌, length, Bool, true, false, ◌==◌, if◌then◌else◌, Option, Some, None, unwrap_or, sum_by, slice_index, slice_index_or, slice_set}
+--     noted, ended, prepared_for, loaded, with_area      what is known after each call
+use Rattle.std.specs.Prelude.{ℕ, ◌+◌, ◌-◌, ◌*◌, [], ◌∷◌, ◌==◌, if◌then◌else◌}
+use Rattle.std.specs.Prelude.{List, length, Bool, true, false, Option, Some, None, unwrap_or}
+use Rattle.std.specs.Prelude.{sum_by, slice_index, slice_index_or, slice_set}
 use Rattle.std.specs.declared.cmp.Ordering.{Ordering}
 use Rattle.std.specs.declared.cmp.Ordering.TheVariants.{Less, Equal, Greater}
 use Rattle.mdb_model.specs.declared.change.Change.{Change}
@@ -11,8 +13,8 @@ use Rattle.mdb_model.specs.Space.{ceil_div, table_pages, converter_pages, every_
 use Rattle.mdb_model.specs.Tables.{Place, place_cmp}
 use Rattle.space_rule.specs.declared.open_change.OpenChange.{OpenChange}
 
--- what is told: the committed cost of each table at its number; at each session's number its changes, one for each key,
--- by table and key; and the place for whose change memory was taken
+-- what is known: the committed cost of each table at its number; at each session's number its
+-- changes, one for each key, by table and key; and the place for whose change memory was taken
 pub record Told : Type 0 where
   pub blocks : ℕ
   pub kept : ℕ
@@ -56,9 +58,10 @@ cost_of committed sessions table = slice_index committed table + growth_of table
 
 -- the pages of all tables
 abbrev pub pages_of : List ℕ → List (List OpenChange) → ℕ
-pages_of committed sessions = sum_by (λ table. table_pages (cost_of committed sessions table)) every_table
+pages_of committed sessions =
+    sum_by (λ table. table_pages (cost_of committed sessions table)) every_table
 
--- the undo pages for before images of so many bytes; without changes there are none
+-- the undo pages for before images of n bytes; without changes there are none
 abbrev pub undo_pages_for : ℕ → ℕ
 undo_pages_for bytes = if bytes == 0 then 0 else 1 + ceil_div (2 * bytes) 8128
 
@@ -82,7 +85,8 @@ abbrev pub changes_at : List (List OpenChange) → ℕ → List OpenChange
 changes_at sessions session = slice_index_or sessions session []
 
 -- a change beside the first of others, by how that one stands to it
-abbrev pub open_by : Ordering → OpenChange → OpenChange → List OpenChange → List OpenChange → List OpenChange
+abbrev pub open_by : Ordering → OpenChange → OpenChange → List OpenChange → List OpenChange
+    → List OpenChange
 open_by Less x y ys more = y ∷ more
 open_by Equal x y ys more = record y { now = x.now } ∷ ys
 open_by Greater x y ys more = x ∷ y ∷ ys
@@ -94,19 +98,24 @@ with_open x (y ∷ ys) = open_by (place_cmp (open_place y) (open_place x)) x y y
 
 -- a change of a row whose value had this length before
 abbrev pub opened : Change → Option ℕ → OpenChange
-opened (Put table key value) before = record { table = table; key = key; before = before; now = Some (length value) }
+opened (Put table key value) before =
+    record { table = table; key = key; before = before; now = Some (length value) }
 opened (Del table key) before = record { table = table; key = key; before = before; now = None }
 
 -- a session has one more change
-abbrev pub with_noted : List (List OpenChange) → (session : ℕ) → Change → (before : Option ℕ) → List (List OpenChange)
-with_noted sessions session change before = slice_set sessions session (with_open (opened change before) (changes_at sessions session))
+abbrev pub with_noted : List (List OpenChange) → (session : ℕ) → Change → (before : Option ℕ)
+    → List (List OpenChange)
+with_noted sessions session change before =
+    slice_set sessions session (with_open (opened change before) (changes_at sessions session))
 
 abbrev pub noted : Told → (session : ℕ) → Change → (before : Option ℕ) → Told
-noted told session change before = record told { sessions = with_noted told.sessions session change before; prepared = None }
+noted told session change before =
+    record told { sessions = with_noted told.sessions session change before; prepared = None }
 
 -- a committed change puts the cost that its row has now in place of the cost before
 abbrev pub settled : OpenChange → List ℕ → List ℕ
-settled x committed = slice_set committed x.table.0 ((slice_index committed x.table.0 + cost_now x) - cost_before x)
+settled x committed =
+    slice_set committed x.table.0 ((slice_index committed x.table.0 + cost_now x) - cost_before x)
 
 -- committed changes, the last one first
 abbrev pub with_settled : List OpenChange → List ℕ → List ℕ

@@ -3,6 +3,14 @@ ghost use Rattle.std.specs.Prelude.{◌≡◌, ◌+◌, ◌-◌, ◌^◌, ◌<�
 ghost use Rattle.mdb_model.specs.Space.{table_pages, converter_pages};
 ghost use Rattle.space_rule.specs.Told.{row_cost, undo_pages_for};
 
+use mdb_model::limits::PAGE_ROOM;
+
+// Bytes of a page that its entries use.
+const ROOM: u64 = PAGE_ROOM as u64;
+
+// Entries of a leaf of the converter.
+const LEAF_ENTRIES: u64 = 600;
+
 /// The bytes of a row with a value of this length; none where there is no row.
 pub(crate) fn row_cost(key: &[u8], value: Option<u16>) -> u64
     requires { length key.now < 2 ^ 62 }
@@ -23,7 +31,7 @@ pub(crate) fn growth(key: &[u8], before: Option<u16>, now: Option<u16>) -> u64
     row_cost(key, now).saturating_sub(row_cost(key, before))
 }
 
-/// The pages of a table whose rows cost so many bytes.
+/// The pages of a table whose rows cost this number of bytes.
 pub(crate) fn table_page_count(cost: u64) -> u64
     requires { cost < 2 ^ 62 + 2 ^ 20 }
     ensures count { result ≡ table_pages cost }
@@ -31,14 +39,15 @@ pub(crate) fn table_page_count(cost: u64) -> u64
 {
     if cost == 0 {
         0
-    } else if cost <= 8128 {
+    } else if cost <= ROOM {
         1
     } else {
-        4 + (3 * cost + 8128 - 1) / 8128
+        4 + (3 * cost + ROOM - 1) / ROOM
     }
 }
 
-/// The undo pages of a transaction whose before images cost so many bytes.
+/// The undo pages of a transaction whose before images cost this number
+/// of bytes.
 pub(crate) fn undo_page_count(bytes: u64) -> u64
     requires { bytes < 2 ^ 62 + 2 ^ 20 }
     ensures count { result ≡ undo_pages_for bytes }
@@ -47,16 +56,16 @@ pub(crate) fn undo_page_count(bytes: u64) -> u64
     if bytes == 0 {
         0
     } else {
-        1 + (2 * bytes + 8128 - 1) / 8128
+        1 + (2 * bytes + ROOM - 1) / ROOM
     }
 }
 
-/// The pages of a converter of so many blocks.
+/// The pages of a converter of this number of blocks.
 pub(crate) fn converter_page_count(blocks: u32) -> u64
     ensures count { result ≡ converter_pages blocks }
     ensures small { result ≤ 2 ^ 32 }
 {
-    1 + (blocks as u64 + 600 - 1) / 600
+    1 + (blocks as u64 + LEAF_ENTRIES - 1) / LEAF_ENTRIES
 }
 
 /// The bytes of the image of a row before its change.

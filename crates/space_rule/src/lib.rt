@@ -7,6 +7,3 @@ mod open_change;
 mod space;
 
 pub use space::Space;
-
-#[cfg(test)]
-mod tests;

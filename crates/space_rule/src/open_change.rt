@@ -1,5 +1,7 @@
 //! The changes that are not committed.
-ghost use Rattle.std.specs.Prelude.{◌≡◌, ◌+◌, ◌^◌, ◌<◌, ◌≤◌, length, map, vec_len, vec_capacity, IfOk, IfErr, IsTrue, sum_by};
+ghost use Rattle.std.specs.Prelude.{◌≡◌, ◌+◌, ◌^◌, ◌<◌, ◌≤◌};
+ghost use Rattle.std.specs.Prelude.{length, map, vec_len, vec_capacity, IfOk, IfErr, IsTrue};
+ghost use Rattle.std.specs.Prelude.{sum_by};
 ghost use Rattle.mdb_model.specs.Tables.{place_cmp};
 ghost use Rattle.mdb_bytes.specs.Fields.{rises};
 ghost use Rattle.sorted_places.specs.Search.{IsAt, IsGap};
@@ -52,10 +54,17 @@ pub(crate) fn weight_with(
     requires key { length key.now ≤ 256 }
     requires grown { sum_by (growth_on table.0) changes.now ≤ weight.grown }
     requires small { (weight.grown < 2 ^ 62) × (weight.bytes < 2 ^ 62) }
+    // The result.
     ensures grown { result.grown + sum_by (growth_on table.0) changes.now
-        ≡ weight.grown + sum_by (growth_on table.0) (with_open (record { table = table; key = key.now; before = before; now = now }) changes.now) }
+        ≡ weight.grown
+        + sum_by (growth_on table.0)
+        (with_open (record { table = table; key = key.now; before = before; now = now })
+        changes.now) }
     ensures bytes { result.bytes + sum_by undo_cost changes.now
-        ≡ weight.bytes + sum_by undo_cost (with_open (record { table = table; key = key.now; before = before; now = now }) changes.now) }
+        ≡ weight.bytes
+        + sum_by undo_cost
+        (with_open (record { table = table; key = key.now; before = before; now = now })
+        changes.now) }
     ensures grown_small { result.grown ≤ weight.grown + 2 ^ 17 }
     ensures bytes_small { result.bytes ≤ weight.bytes + 2 ^ 17 }
 {

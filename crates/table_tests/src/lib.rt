@@ -1,4 +1,4 @@
-//! Tests of tables as lists of leaves on a page store.
+//! Tests of the space rule, of a page store, and of tables as lists of leaves on it.
 #![tactic(auto)]
 
 #[cfg(test)]
@@ -6,7 +6,11 @@ mod area;
 #[cfg(test)]
 mod both;
 #[cfg(test)]
+mod pages;
+#[cfg(test)]
 mod plain;
+#[cfg(test)]
+mod space;
 #[cfg(test)]
 mod stored;
 #[cfg(test)]

@@ -3,7 +3,8 @@ ghost use Rattle.std.specs.Prelude.{◌≡◌, ◌&&◌};
 ghost use Rattle.mdb_model.specs.Script.{is_table, is_key};
 ghost use Rattle.mdb_bytes.specs.Firsts.{first_catalogue};
 
-use crate::area::{MuteHost, new_host, open};
+use crate::area::{new_host, open};
+use host_tests::MuteHost;
 use leaf_runs::Runs;
 use mdb_bytes::{Catalogue, CatalogueEntry, Pages, Rows, encode_catalogue};
 use mdb_model::bytes::{KeyBuf, ValueBuf};
@@ -11,6 +12,9 @@ use mdb_model::name::Table;
 use page_store::PageStore;
 use std::alloc::Global;
 use std::test::Fail;
+
+// The blocks of the area.
+const BLOCKS: u32 = 600;
 
 // The rows of all tables, on a store over its devices.
 #[derive(Drop)]
@@ -67,8 +71,8 @@ fn is_place(table: Table, key: &[u8]) -> bool
 impl StoredRows {
     // No rows.
     pub(crate) fn new(alloc: Global) -> Result<StoredRows, Fail> {
-        let mut host = new_host(alloc)?;
-        let mut store = open(alloc, &mut host)?;
+        let mut host = new_host(alloc, BLOCKS)?;
+        let (mut store, _) = open(alloc, &mut host)?;
         make_first(&mut store, &mut host)?;
         write_catalogue(&mut store, &mut host)?;
         Ok(StoredRows { host, store })

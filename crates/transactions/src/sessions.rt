@@ -1,30 +1,27 @@
 //! The transactions of all sessions.
-ghost use Rattle.std.specs.Prelude.{◌≡◌, ℕ, ◌<◌, ◌≤◌, Bool, true, false, None, Some, length, IfOk, IfErr, OnOk, IsTrue, is_some, option_map, map, Err};
+ghost use Rattle.std.specs.Prelude.{◌≡◌, ℕ, ◌<◌, ◌≤◌, Bool, true, false, None, Some, length, IfOk, IfErr, OnOk, IsTrue, is_some, map, Err};
 ghost use Rattle.std.specs.List.{list_all};
-ghost use Rattle.std.specs.Option.{option_copied};
 ghost use Rattle.std.specs.FinMap.{empty, get, insert, len, values};
 ghost use Rattle.mdb_model.specs.declared.change.Change.TheVariants.{Put, Del};
 ghost use Rattle.mdb_model.specs.Script.{is_session, is_table, is_key};
 ghost use Rattle.mdb_model.specs.Tables.{place_cmp, place_of};
 ghost use Rattle.mdb_model.specs.Worlds.{Lock, ShareKey, ExclusiveKey, ShareTable};
 ghost use Rattle.mdb_model.specs.Sessions.{group_bytes};
-ghost use Rattle.mdb_bytes.specs.Fields.{Spells, rises, number_end};
-ghost use Rattle.mdb_bytes.specs.Groups.{group_format, change_fits, longest_group};
+ghost use Rattle.mdb_bytes.specs.Fields.{rises};
+ghost use Rattle.mdb_bytes.specs.Groups.{change_fits, longest_group};
 ghost use Rattle.mdb_bytes.specs.Held.{IsRow, HasPageCause};
-ghost use Rattle.record_locks.specs.Holding.{lock_on};
 ghost use Rattle.record_locks.specs.Holders.{bars, holder_in};
-ghost use Rattle.transactions.specs.Locked.{AreLocked};
 ghost use Rattle.transactions.specs.Net.{seen_row};
 ghost use Rattle.transactions.specs.Ongoing.{changes_of, Ended, HandedOut};
 ghost use Rattle.transactions.specs.Calls.{TakesLock, PutDoes, DelDoes, UnlessPage, HasTxCause, bytes_with};
 
 use crate::fault::{TxFault, from_lock};
 use crate::transaction::OpenTransaction;
-use mdb_bytes::{GroupBuf, Rows, encode_group};
+use mdb_bytes::Rows;
 use mdb_model::bytes::{Key, Value, ValueBuf};
 use mdb_model::change::Change;
 use mdb_model::fault::{Memory, PageFault};
-use mdb_model::name::{Name, Session, Table};
+use mdb_model::name::{Session, Table};
 use record_locks::Locks;
 use std::alloc::Global;
 use std::array;
@@ -82,20 +79,20 @@ fn read_row<R: Rows>(
     }
 }
 
-// A put of its own memory.
-fn put_of(alloc: Global, table: Table, key: &Key, value: &Value) -> Result<Change, Memory>
+// A put that shares the memory of its key and its value.
+fn put_of(table: Table, key: &Key, value: &Value) -> Result<Change, Memory>
     ensures { IfOk result (λ change. change ≡ Put table key.now value.now) }
 {
-    let key = key.copy(alloc)?;
-    let value = value.copy(alloc)?;
+    let key = key.share()?;
+    let value = value.share()?;
     Ok(Change::Put(table, key, value))
 }
 
-// A deletion of its own memory.
-fn del_of(alloc: Global, table: Table, key: &Key) -> Result<Change, Memory>
+// A deletion that shares the memory of its key.
+fn del_of(table: Table, key: &Key) -> Result<Change, Memory>
     ensures { IfOk result (λ change. change ≡ Del table key.now) }
 {
-    let key = key.copy(alloc)?;
+    let key = key.share()?;
     Ok(Change::Del(table, key))
 }
 
@@ -183,7 +180,7 @@ impl Transactions {
         if self.most < bytes {
             return Err(TxFault::TooLarge(bytes));
         }
-        let Ok(change) = put_of(self.alloc, t, key, value) else {
+        let Ok(change) = put_of(t, key, value) else {
             return Err(TxFault::Memory);
         };
         if !fits {
@@ -260,7 +257,7 @@ impl Transactions {
         if self.most < bytes {
             return Err(TxFault::TooLarge(bytes));
         }
-        let Ok(change) = del_of(self.alloc, t, key) else {
+        let Ok(change) = del_of(t, key) else {
             return Err(TxFault::Memory);
         };
         if !fits {
@@ -292,14 +289,6 @@ impl Transactions {
         }
     }
 
-    /// The last change of a key by the session itself.
-    pub fn own_change(&self, s: Session, t: Table, key: &[u8]) -> Option<&Change>
-        requires session { IsTrue (is_session s.0) }
-        ensures { option_copied result ≡ get (changes_of self.now s.0) (t.0, key.now) }
-    {
-        self.sessions[s.0 as usize].get(t, key)
-    }
-
     /// The last change of each key of the session, by table and key, as a commit group has them.
     pub fn changes(&self, s: Session) -> &[Change]
         requires session { IsTrue (is_session s.0) }
@@ -309,15 +298,6 @@ impl Transactions {
         ensures fit { group_bytes result.now ≤ longest_group }
     {
         self.sessions[s.0 as usize].changes()
-    }
-
-    /// The commit group of the session's changes, in place of what `into` held.
-    pub fn net_changes(&self, s: Session, name: Name, commit: u64, into: &mut GroupBuf)
-        requires session { IsTrue (is_session s.0) }
-        requires numbers { (name.birth < number_end) × (name.generation < number_end) × (commit < number_end) }
-        ensures { Spells group_format (record { name = name; number = commit; changes = values (changes_of self.now s.0) }) into.new }
-    {
-        encode_group(into, name, commit, self.sessions[s.0 as usize].changes());
     }
 
     /// How many keys the session has changed.
@@ -353,22 +333,5 @@ impl Transactions {
     {
         self.locks.release(s);
         self.sessions[s.0 as usize].clear();
-    }
-
-    /// The lowest other session with a lock that conflicts with this one: on a key, exclusive or
-    /// not, or where no key is named on the table. It takes no lock. A key that a session has
-    /// changed is one that it has locked to change.
-    pub fn holder(
-        &self,
-        s: Session,
-        t: Table,
-        key: Option<&Key>,
-        exclusive: bool,
-    ) -> Option<Session>
-        requires session { IsTrue (is_session s.0) }
-        ensures holder { option_map (λ holder. holder.0) result ≡ holder_in self.now.locks s.0 (lock_on t.0 (option_copied key.entry) exclusive) }
-        ensures locked { AreLocked self.now.locks self.now.changes }
-    {
-        self.locks.holder(s, t, key, exclusive)
     }
 }

@@ -3,9 +3,11 @@
 --     page_of, block_at      the bytes of a page and of a block
 --     IsArea      the volumes are there with their sizes
 --     Writes      the blocks of a set hold anything, all else is as before
---     IsSettled, AreSettled      a crash leaves of each block, of each of the first volumes, what a read gives
+--     IsSettled, AreSettled      a crash leaves of each block, of each of the first volumes, what a
+--         read gives
 --     IsCounted      what is kept of the sizes
-use Rattle.std.specs.Prelude.{◌≡◌, ℕ, ◌+◌, ◌-◌, ◌*◌, ◌<◌, ◌≤◌, List, [], ◌∷◌, length, take, drop, get_or, sum, nat_lt, if◌then◌else◌}
+use Rattle.std.specs.Prelude.{◌≡◌, ℕ, ◌+◌, ◌-◌, ◌*◌, ◌<◌, ◌≤◌, List, [], ◌∷◌, if◌then◌else◌}
+use Rattle.std.specs.Prelude.{length, take, drop, get_or, sum, nat_lt}
 use Rattle.mdb_model.specs.declared.fault.Device.{Device}
 use Rattle.mdb_model.specs.declared.fault.Device.TheVariants.{Data}
 use Rattle.mdb_model.specs.Images.{Image, bytes_of, byte_at}
@@ -32,20 +34,26 @@ block_at sizes image b = page_of image (Data (place 1 sizes b).0) (place 1 sizes
 
 -- each volume is there with as many pages as its size says, or more
 abbrev pub IsArea : List ℕ → Image → Type 0
-IsArea sizes image = (i : ℕ) → i < length sizes → IsWithin image (Data (i + 1)) 0 (8192 * get_or sizes i 0)
+IsArea sizes image =
+    (i : ℕ) → i < length sizes → IsWithin image (Data (i + 1)) 0 (8192 * get_or sizes i 0)
 
--- The blocks of a set hold anything. Every other block, all that the volumes have past their blocks, every other
--- device and all sizes are as before.
+-- The blocks of a set hold anything. Every other block, all that the volumes have past their
+-- blocks, every other device and all sizes are as before.
 pub record Writes (sizes : List ℕ) (set : ℕ → Type 0) (old new : Image) : Type 0 where
   pub others : (e : Device) → ((i : ℕ) → i < length sizes → e ≡ Data (i + 1) → ⊥) → new e ≡ old e
   pub same_sizes : SameSizes old new
   pub outside : (b : ℕ) → b < sum sizes → (set b → ⊥) → block_at sizes new b ≡ block_at sizes old b
-  pub past : (i k : ℕ) → i < length sizes → 8192 * get_or sizes i 0 ≤ k → byte_at (new (Data (i + 1))) k ≡ byte_at (old (Data (i + 1))) k
+  pub past : (i k : ℕ) → i < length sizes → 8192 * get_or sizes i 0 ≤ k
+      → byte_at (new (Data (i + 1))) k ≡ byte_at (old (Data (i + 1))) k
 
 -- a crash now leaves of each block what a read gives
 abbrev pub IsSettled : List ℕ → Disk → Type 0
-IsSettled sizes disk = (image : Image) → disk.may_leave disk.now image → (b : ℕ) → b < sum sizes → block_at sizes image b ≡ block_at sizes disk.seen b
+IsSettled sizes disk =
+    (image : Image) → disk.may_leave disk.now image → (b : ℕ) → b < sum sizes
+    → block_at sizes image b ≡ block_at sizes disk.seen b
 
 -- a crash now leaves of the first n volumes what a read gives
 abbrev pub AreSettled : ℕ → Disk → Type 0
-AreSettled n disk = (image : Image) → disk.may_leave disk.now image → (k : ℕ) → k < n → image (Data (k + 1)) ≡ disk.seen (Data (k + 1))
+AreSettled n disk =
+    (image : Image) → disk.may_leave disk.now image → (k : ℕ) → k < n
+    → image (Data (k + 1)) ≡ disk.seen (Data (k + 1))

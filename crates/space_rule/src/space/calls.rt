@@ -1,5 +1,8 @@
 //! The calls of the space rule.
-ghost use Rattle.std.specs.Prelude.{◌≡◌, ◌+◌, ◌-◌, ◌^◌, ◌<◌, ◌≤◌, ℕ, List, [], true, false, length, replicate, ◌∷◌, ◌++◌, None, Some, IfSome, IfNone, OnOk, OnErr, IsTrue, map, vec_len, vec_capacity, sum_by, slice_index, slice_set, if◌then◌else◌, option_map, Vec};
+ghost use Rattle.std.specs.Prelude.{◌≡◌, ◌+◌, ◌-◌, ◌^◌, ◌<◌, ◌≤◌, ℕ, [], ◌∷◌, ◌++◌, if◌then◌else◌};
+ghost use Rattle.std.specs.Prelude.{List, true, false, length, replicate, None, Some, IfSome};
+ghost use Rattle.std.specs.Prelude.{IfNone, OnOk, OnErr, IsTrue, map, vec_len, vec_capacity};
+ghost use Rattle.std.specs.Prelude.{sum_by, slice_index, slice_set, option_map, Vec};
 ghost use Rattle.std.specs.Bool.{OnTrue, OnFalse};
 ghost use Rattle.std.specs.Option.{ForSome};
 ghost use Rattle.mdb_model.specs.Script.{is_session, is_table};
@@ -32,7 +35,7 @@ use crate::costs::{
     converter_page_count, growth, image_cost, row_cost, table_page_count, undo_page_count,
 };
 use crate::open_change::{OpenChange, Weight, put_open, weight_with};
-use crate::space::Space;
+use crate::space::{SESSIONS, Space, TABLES};
 use mdb_model::bytes::Key;
 use mdb_model::change::Change;
 use mdb_model::fault::Memory;
@@ -40,7 +43,7 @@ use mdb_model::name::{Session, Table};
 use std::alloc::Global;
 use std::array;
 
-// What the sums are with one more change.
+// The sums with one more change of a session.
 #[derive(Clone, Copy)]
 struct Weighed {
     weight: Weight,
@@ -48,7 +51,7 @@ struct Weighed {
     undo: u64,
 }
 
-// What the sums are without the last change of a session.
+// The sums after the last change of a session ended.
 #[derive(Clone, Copy)]
 pub(crate) struct Settled {
     index: usize,
@@ -114,7 +117,8 @@ fn settled_cost(committed: u64, before: u64, now: u64, is_commit: bool) -> u64
 
 // Takes the last change away.
 fn drop_last(changes: &mut Vec<OpenChange>)
-    ensures { (xs : List OpenChange) (x : OpenChange) → changes.old.items ≡ xs ++ x ∷ [] → changes.new.items ≡ xs }
+    ensures { (xs : List OpenChange) (x : OpenChange) → changes.old.items ≡ xs ++ x ∷ []
+        → changes.new.items ≡ xs }
 {
     changes.pop();
 }
@@ -144,19 +148,19 @@ fn place_open(
     }
 }
 
-fn no_costs() -> [u64; 501]
+fn no_costs() -> [u64; TABLES]
     ensures { result ≡ replicate 501 0 }
 {
-    [0; 501]
+    [0; TABLES]
 }
 
-fn no_bytes() -> [u64; 65]
+fn no_bytes() -> [u64; SESSIONS]
     ensures { result ≡ replicate 65 0 }
 {
-    [0; 65]
+    [0; SESSIONS]
 }
 
-fn no_changes(alloc: Global) -> [Vec<OpenChange>; 65]
+fn no_changes(alloc: Global) -> [Vec<OpenChange>; SESSIONS]
     ensures { lists result ≡ replicate 65 [] }
 {
     array::from_fn(|_| Vec::new(alloc))
@@ -167,28 +171,32 @@ fn reserve_one(changes: &mut Vec<OpenChange>) -> Result<(), Memory>
     ensures same { changes.new.items ≡ changes.old.items }
     ensures room { OnOk result (vec_len changes.new < vec_capacity changes.new) }
 {
-    match changes.reserve(1) {
-        Ok(()) => Ok(()),
-        Err(_) => Err(Memory),
-    }
+    changes.reserve(1).map_err(|_| Memory)
 }
 
 // Takes the memory for one more change of each session.
-fn reserve_each(sessions: &mut [Vec<OpenChange>; 65]) -> Result<(), Memory>
+fn reserve_each(sessions: &mut [Vec<OpenChange>; SESSIONS]) -> Result<(), Memory>
     ensures same { lists sessions.new ≡ lists sessions.old }
     ensures room { OnOk result (HasRoom sessions.new) }
 {
-    for session in 0..65 {
+    for session in 0..SESSIONS {
         reserve_one(&mut sessions[session])?;
     }
     Ok(())
 }
 
 impl Space {
-    /// An area of so many blocks, with no rows, no open changes and nothing kept. It takes no
-    /// memory.
+    /// An area of this number of blocks, with no rows, no open changes and nothing kept. It takes
+    /// no memory.
     pub fn new(alloc: Global, blocks: u32) -> Space
-        ensures { told_of result ≡ record { blocks = blocks; kept = 0; committed = replicate 501 0; sessions = replicate 65 []; prepared = None } }
+        ensures { told_of result
+            ≡ record {
+              blocks = blocks;
+              kept = 0;
+              committed = replicate 501 0;
+              sessions = replicate 65 [];
+              prepared = None;
+            } }
     {
         Space {
             alloc,
@@ -224,10 +232,19 @@ impl Space {
         requires session { IsTrue (is_session s.0) }
         requires limits { IsTrue (change_fits change.now) }
         requires before { ForSome before (λ n. n ≤ 1500) }
-        ensures grown { result.weight.grown ≡ growth_of (place_of change.now).0 (with_noted (told_of self.now).sessions s.0 change.now before) }
-        ensures bytes { result.weight.bytes ≡ sum_by undo_cost (with_open (opened change.now before) (changes_at (told_of self.now).sessions s.0)) }
-        ensures pages { result.pages ≡ pages_of self.now.committed (with_noted (told_of self.now).sessions s.0 change.now before) }
-        ensures undo { result.undo ≡ undo_of (with_noted (told_of self.now).sessions s.0 change.now before) }
+        // The result.
+        ensures grown { result.weight.grown
+            ≡ growth_of (place_of change.now).0
+            (with_noted (told_of self.now).sessions s.0 change.now before) }
+        ensures bytes { result.weight.bytes
+            ≡ sum_by undo_cost
+            (with_open (opened change.now before)
+            (changes_at (told_of self.now).sessions s.0)) }
+        ensures pages { result.pages
+            ≡ pages_of self.now.committed
+            (with_noted (told_of self.now).sessions s.0 change.now before) }
+        ensures undo { result.undo
+            ≡ undo_of (with_noted (told_of self.now).sessions s.0 change.now before) }
         ensures small { (result.pages ≤ 2 ^ 62) × (result.undo ≤ 2 ^ 61) }
     {
         let table = table_of(change);
@@ -269,10 +286,11 @@ impl Space {
         2 + size + 2 * converter_page_count(self.blocks) + self.kept
     }
 
-    /// Takes the memory for one `note` of this change, whatever the session. Where memory is
-    /// wanting nothing is prepared; else all is as it was.
+    /// Takes the memory for one `note` of this change, whatever the session. Out of memory,
+    /// nothing is prepared; else all is as it was.
     pub fn prepare(&mut self, change: &Change) -> Result<(), Memory>
-        ensures ok { OnOk result (told_of self.new ≡ prepared_for (told_of self.old) (Some (place_of change.now))) }
+        ensures ok { OnOk result
+            (told_of self.new ≡ prepared_for (told_of self.old) (Some (place_of change.now))) }
         ensures err { OnErr result (told_of self.new ≡ prepared_for (told_of self.old) None) }
     {
         self.prepared = None;
@@ -329,13 +347,16 @@ impl Space {
         self.committed[index] = bytes;
     }
 
-    // What the sums are without the last change of a session, once it ended; none where the session
-    // has no change.
+    // The sums after the last change of a session ended. `None` if it has none.
     fn without_last(&self, session: usize, is_commit: bool) -> Option<Settled>
         requires { session < 65 }
-        ensures some { IfSome result (λ settled. (xs : List OpenChange) (x : OpenChange) → changes_at (told_of self.now).sessions session ≡ xs ++ x ∷ []
-            → IsSettled self.now.committed self.now.grown (told_of self.now).sessions self.now.undo_bytes session is_commit xs x settled) }
-        ensures one { IfSome result (λ settled. 0 < length (changes_at (told_of self.now).sessions session)) }
+        ensures some { IfSome result
+            (λ settled. (xs : List OpenChange) (x : OpenChange)
+            → changes_at (told_of self.now).sessions session ≡ xs ++ x ∷ []
+            → IsSettled self.now.committed self.now.grown (told_of self.now).sessions
+            self.now.undo_bytes session is_commit xs x settled) }
+        ensures one { IfSome result
+            (λ settled. 0 < length (changes_at (told_of self.now).sessions session)) }
         ensures inside { IfSome result (λ settled. settled.index < 501) }
         ensures none { IfNone result (changes_at (told_of self.now).sessions session ≡ []) }
     {
@@ -347,13 +368,16 @@ impl Space {
         Some(self.settled(session, change, is_commit))
     }
 
-    // The same of a change that is the last one of the session.
+    // The sums after this change ended, the last one of a session.
     fn settled(&self, session: usize, change: &OpenChange, is_commit: bool) -> Settled
         requires session { session < 65 }
-        requires last { (xs : List OpenChange) × (changes_at (told_of self.now).sessions session ≡ xs ++ change.now ∷ []) }
+        requires last { (xs : List OpenChange)
+            × (changes_at (told_of self.now).sessions session ≡ xs ++ change.now ∷ []) }
         ensures inside { result.index < 501 }
-        ensures sums { (xs : List OpenChange) → changes_at (told_of self.now).sessions session ≡ xs ++ change.entry.now ∷ []
-            → IsSettled self.now.committed self.now.grown (told_of self.now).sessions self.now.undo_bytes session is_commit xs change.entry.now result }
+        ensures sums { (xs : List OpenChange)
+            → changes_at (told_of self.now).sessions session ≡ xs ++ change.entry.now ∷ []
+            → IsSettled self.now.committed self.now.grown (told_of self.now).sessions
+            self.now.undo_bytes session is_commit xs change.entry.now result }
     {
         let index = change.table.0 as usize;
         let key = change.key.bytes();
@@ -377,9 +401,13 @@ impl Space {
     // none.
     fn settle_last(&mut self, session: usize, is_commit: bool) -> bool
         requires { session < 65 }
-        ensures settled { ended (told_of self.new) session is_commit ≡ ended (told_of self.old) session is_commit }
-        ensures fewer { OnTrue result (length (changes_at (told_of self.new).sessions session) < length (changes_at (told_of self.old).sessions session)) }
-        ensures none { OnFalse result (told_of self.new ≡ ended (told_of self.old) session is_commit) }
+        ensures settled { ended (told_of self.new) session is_commit
+            ≡ ended (told_of self.old) session is_commit }
+        ensures fewer { OnTrue result
+            (length (changes_at (told_of self.new).sessions session)
+            < length (changes_at (told_of self.old).sessions session)) }
+        ensures none { OnFalse result
+            (told_of self.new ≡ ended (told_of self.old) session is_commit) }
     {
         self.prepared = None;
         let Some(settled) = self.without_last(session, is_commit) else {

@@ -30,3 +30,7 @@ returns-clause-refuses g c told =
 pub returns-clause-calm : goal.returns-clause-calm
 returns-clause-calm g c told =
     agree_on (g.H.Host.disk c.args.host.now) (g.H.Host.disk c.sync_devices.new.host) (g.H.Host.disk c.read_records.new.host) (c.sync_devices.ensures.calm told) (c.read_records.ensures.calm told)
+
+pub returns-clause-past_end : goal.returns-clause-past_end
+returns-clause-past_end g c is told =
+    all_stay (g.H.Host.disk c.sync_devices.new.host) (g.H.Host.disk c.read_records.new.host) device_count (c.read_records.ensures.calm told) (c.read_records.ensures.seen told) (c.in-Ok.ensures.synced told)

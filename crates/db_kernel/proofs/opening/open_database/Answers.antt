@@ -1,4 +1,4 @@
-use Rattle.std.proofs.Common.{◌∙◌, ◌+◌, ◌-◌, ◌*◌, refl, sym, subst, ap, min, Err, arith}
+use Rattle.std.proofs.Common.{◌≡◌, ◌∙◌, ◌+◌, ◌-◌, ◌*◌, refl, sym, subst, ap, min, Err, arith}
 use Rattle.mdb_model.specs.declared.name.Name.{Name}
 use Rattle.mdb_model.specs.Images.{Image}
 use Rattle.mdb_host.proofs.Moments.{same_image}
@@ -10,6 +10,11 @@ use Rattle.redo_ring.proofs.Places.{agree_on}
 use Rattle.creation.specs.Devices.{device_count}
 use Rattle.db_kernel.proofs.Opened.{found_start, found_blocks, records_whole, in_front, first_whole, ring_found, ring_refused, redo_refused, ring_refuses, redo_refuses, log_in_ring, log_opened, made_found}
 use Rattle.creation.proofs.Syncing.{all_stay}
+use Rattle.mdb_model.specs.declared.script.Refusal.{Refusal}
+use Rattle.mdb_model.specs.declared.script.Refusal.TheVariants.{NumberEnd}
+use Rattle.db_kernel.specs.Access.{opens}
+use Rattle.db_kernel.specs.Damages.{RefusesInFront}
+use Rattle.db_kernel.proofs.Reaching.{each_in_reach, each_past_end}
 use Rattle.db_kernel.proofs.opening.open_database.Goals as goal
 
 pub returns-in-Err-clause-finds : goal.returns-in-Err-clause-finds
@@ -92,3 +97,16 @@ returns-in-Err-redo-clause-refuses g c told =
     redo_refuses (g.H.Host.disk c.args.host.now).seen both.commits c.in-Err-redo.fault c.refusal_of-in-Err-redo.result c.refusal_of-in-Err-redo.ensures
     (c.in-Err-redo.ensures.all told both.commits (log_opened c.in-Ok-open.ring c.in-Ok.found.start d1.seen d2.seen both.commits opened (c.open.ensures.seen told) both.log.log)
     (omega (arith, both.log.room, opened.size)) (omega (arith, both.log.ends)))
+
+pub returns-in-Err-clause-past_end : goal.returns-in-Err-clause-past_end
+returns-in-Err-clause-past_end g c told is =
+    let d0 = g.H.Host.disk c.args.host.now in
+    let end : c.in-Err.refusal ≡ NumberEnd = cc is in
+    each_past_end d0 (g.H.Host.disk c.find_records.new.host) (c.find_records.ensures.seen told) (c.in-Err.ensures.past_end (λ i. Err (end i)) told)
+    (subst (λ (refusal : Refusal). RefusesInFront d0.seen refusal) end (c.in-Err.ensures.refuses told)) (opens c.args.access)
+
+pub returns-in-Ok-redo-clause-in_reach : goal.returns-in-Ok-redo-clause-in_reach
+returns-in-Ok-redo-clause-in_reach g c told =
+    each_in_reach (g.H.Host.disk c.args.host.now) (g.H.Host.disk c.redo.new.host)
+    (λ e. c.redo.ensures.seen told e ∙ c.open.ensures.seen told e ∙ c.find_records.ensures.seen told e)
+    (returns-in-Ok-redo-clause-synced g c told) c.in-Ok.found (c.in-Ok.ensures.found told)

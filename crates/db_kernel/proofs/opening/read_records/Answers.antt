@@ -31,6 +31,8 @@ there g c told =
       has_info = subst (λ (i : Image). HasLogInfo i c.in-Ok-read_log_info.info) (sym same) (c.in-Ok-read_log_info.ensures.force told);
       start = c.in-Ok-log_start.ensures.start;
       blocks = c.in-Ok-check_volumes.ensures.blocks.is;
+      normal = c.in-Ok-log_start.ensures.normal.0;
+      low = c.in-Ok-log_start.ensures.normal.1;
     }
 
 pub returns-in-Ok-log_start-clause-found : goal.returns-in-Ok-log_start-clause-found

@@ -4,8 +4,8 @@ use Rattle.mdb_bytes.proofs.Booleans.{refused, passed}
 use Rattle.mdb_bytes.proofs.PageParts.{parts_found, other_length, other_unnamed, other_used, other_gap}
 use Rattle.mdb_bytes.proofs.page_sections.sections_of.Goals as goal
 
-pub returns-then-bytes-ne-PAGE_LEN : goal.returns-then-bytes-ne-PAGE_LEN
-returns-then-bytes-ne-PAGE_LEN c = other_length c.args.slot_len c.args.bytes.now (as_bytes c.args.bytes.now c.type_inv.bytes) c.if-bytes-ne-PAGE_LEN.true
+pub returns-then-bytes-ne-PAGE_BYTES : goal.returns-then-bytes-ne-PAGE_BYTES
+returns-then-bytes-ne-PAGE_BYTES c = other_length c.args.slot_len c.args.bytes.now (as_bytes c.args.bytes.now c.type_inv.bytes) c.if-bytes-ne-PAGE_BYTES.true
 
 pub returns-then-not-is_zero : goal.returns-then-not-is_zero
 returns-then-not-is_zero c =
@@ -29,7 +29,7 @@ returns c =
     c.split_at-3.result.1.now c.split_at-4.result.0.now c.split_at-4.result.1.now
     record {
       all = as_bytes c.args.bytes.now c.type_inv.bytes;
-      long = c.if-bytes-ne-PAGE_LEN.false;
+      long = c.if-bytes-ne-PAGE_BYTES.false;
       head_is = c.head_at_front-head.ensures;
       unnamed_is = c.split_at-2.ensures.front ∙ ap (take 48) c.split_at.ensures.back;
       body_is = c.split_at-2.ensures.back ∙ ap (drop 48) c.split_at.ensures.back;

@@ -9,15 +9,16 @@ use Rattle.volume_disk.proofs.Writes.{agree_on}
 use Rattle.converter.specs.Maps.{Maps}
 use Rattle.converter.specs.Tree.{IsRootOf}
 use Rattle.converter.specs.Loads.{IsUnderWay, IsRefused, Breaks, Tells, Admitted, row_of, named}
-use Rattle.converter.proofs.Loaded.{tells_on, if_err, under_row, way_begins, row_breaks, under_from}
+use Rattle.std.proofs.lemmas.Result.{IfErr-weaker}
+use Rattle.converter.proofs.Loaded.{tells_on, under_row, way_begins, row_breaks, under_from}
 use Rattle.converter.proofs.maps.Converter.read_map.Goals as goal
 
 pub returns-then-not-admit_leaves-clause-broken : goal.returns-then-not-admit_leaves-clause-broken
 returns-then-not-admit_leaves-clause-broken g c =
     let sizes = c.args.volumes.now in
     let row = block_at sizes (g.H.Host.disk c.args.host.now).seen in
-    let value = c.in-Ok.value in
-    let got = c.in-Ok.ensures.is in
+    let value = c.in_ok-value.value in
+    let got = c.in_ok-value.ensures.is in
     let is = subst (λ (n : ℕ). IsRootOf n got.0 value) c.leaves-leaves.ensures.count got.1 in
     let bad = c.if-not-admit_leaves.ensures.refused (λ (yes : IsTrue false). absurd (cc)) in
     let refused = subst (λ (m : Maps). IsRefused m (row_of value) bad.0) c.place.ensures bad.2 in
@@ -27,8 +28,8 @@ returns-then-not-admit_leaves-clause-broken g c =
 pub load_leaves-requires-clause-way : goal.load_leaves-requires-clause-way
 load_leaves-requires-clause-way g c =
     let sizes = c.args.volumes.now in
-    let value = c.in-Ok.value in
-    let got = c.in-Ok.ensures.is in
+    let value = c.in_ok-value.value in
+    let got = c.in_ok-value.ensures.is in
     let is = subst (λ (n : ℕ). IsRootOf n got.0 value) c.leaves-leaves.ensures.count got.1 in
     let taken = subst (λ (m : Maps). Admitted m c.admit_leaves.new.self 1 (row_of value) (length value.leaves.items)) c.place.ensures (c.if-not-admit_leaves.ensures.taken refl) in
     under_row g.H.Host.tells c.admit_leaves.new.self c.admit_leaves.new.self c.args.root (block_at sizes (g.H.Host.disk c.args.host.now).seen) (block_at sizes (g.H.Host.disk c.read_root.new.host).seen) 0
@@ -41,7 +42,7 @@ load_leaves-requires-clause-there g c told = subst (λ (i : Image). IsArea c.arg
 pub returns-clause-read : goal.returns-clause-read
 returns-clause-read g c =
     let sizes = c.args.volumes.now in
-    let value = c.in-Ok.value in
+    let value = c.in_ok-value.value in
     let taken = subst (λ (m : Maps). Admitted m c.admit_leaves.new.self 1 (row_of value) (length value.leaves.items)) c.place.ensures (c.if-not-admit_leaves.ensures.taken refl) in
     on_ok c.load_leaves.result _ _ (λ way.
     subst (λ (n : ℕ). IsUnderWay g.H.Host.tells c.args.self.now c.load_leaves.new.self c.args.root (block_at sizes (g.H.Host.disk c.args.host.now).seen) (n - 1)) taken.conv
@@ -53,9 +54,9 @@ returns-clause-read g c =
 pub returns-clause-broken : goal.returns-clause-broken
 returns-clause-broken g c =
     let sizes = c.args.volumes.now in
-    let value = c.in-Ok.value in
+    let value = c.in_ok-value.value in
     let taken = subst (λ (m : Maps). Admitted m c.admit_leaves.new.self 1 (row_of value) (length value.leaves.items)) c.place.ensures (c.if-not-admit_leaves.ensures.taken refl) in
-    if_err c.load_leaves.result _ _ (λ fault told_of.
+    IfErr-weaker c.load_leaves.result _ _ (λ fault told_of.
     tells_on _ _ fault (λ d breaks told.
     subst (λ (n : ℕ). Breaks sizes n (length c.args.self.now.owner) c.args.root (block_at sizes (g.H.Host.disk c.args.host.now).seen) d) taken.conv
     (subst (λ (n : ℕ). Breaks sizes c.admit_leaves.new.self.conv n c.args.root (block_at sizes (g.H.Host.disk c.args.host.now).seen) d) (taken.area ∙ length-set c.args.self.now.owner c.args.root 0)

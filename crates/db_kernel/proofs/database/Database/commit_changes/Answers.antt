@@ -24,6 +24,10 @@ use Rattle.db_kernel.specs.Kept.{made_of}
 use Rattle.db_kernel.proofs.Moving.{completes, commit_none, commit_starved, commit_is_full, commit_in_doubt, commit_open}
 use Rattle.db_kernel.proofs.database.Database.commit_changes.Goals as goal
 
+-- something is to be committed
+some : (n m : ℕ) → n ≡ m → (n ≡ 0 → ⊥) → (m == 0) ≡ false
+some n m same not_none = ne_eqb m 0 (λ none. not_none (same ∙ none))
+
 pub returns-then-changed-eq0-clause-does : goal.returns-then-changed-eq0-clause-does
 returns-then-changed-eq0-clause-does g c told ws holds fit stand =
     let d = c.args.self.now in
@@ -35,11 +39,8 @@ pub returns-in_default-clause-does : goal.returns-in_default-clause-does
 returns-in_default-clause-does g c told ws holds fit stand =
     let d = c.args.self.now in
     completes (g.H.Host.disk c.args.host.now) ws _ _ _
-    (commit_starved d.rows.rows d.transactions (made_of d) d.ring.end_position d.ring.last_commit ws fit c.reserve.new.self.rows d.transactions c.reserve.ensures.rows c.args.session c.requires.session refl) stand
-
--- something is to be committed
-some : (n m : ℕ) → n ≡ m → (n ≡ 0 → ⊥) → (m == 0) ≡ false
-some n m same not_none = ne_eqb m 0 (λ none. not_none (same ∙ none))
+    (commit_starved d.rows.rows d.transactions (made_of d) d.ring.end_position d.ring.last_commit ws fit c.reserve.new.self.rows d.transactions c.reserve.ensures.rows c.args.session c.requires.session
+    (some c.changed.result (len (changes_of d.transactions c.args.session.0)) c.changed.ensures c.if-changed-eq0.false) refl) stand
 
 -- a ring with the blocks of a database
 abbrev with_blocks : (blocks : ℕ) → Ring → Made

@@ -41,9 +41,9 @@ overflow_add-used_of c =
     let b = cost_small _ (named_page _ _ _ (passed c.is_leaf_of-2.ensures c.if-not-is_leaf_of-2.false)).1.page in
     omega (arith, c.used_of.ensures, c.used_of-2.ensures)
 
-pub returns-then-used_of-gt8128 : goal.returns-then-used_of-gt8128
-returns-then-used_of-gt8128 c = λ leaf next na nb up fits.
-    absurd (too_full c.args.a.now c.args.b.now leaf next c.used_of.result c.used_of-2.result na.0 nb.0 c.used_of.ensures c.used_of-2.ensures (omega (arith, c.if-used_of-gt8128.true)) fits)
+pub returns-then-used_of-gt-PAGE_ROOM : goal.returns-then-used_of-gt-PAGE_ROOM
+returns-then-used_of-gt-PAGE_ROOM c = λ leaf next na nb up fits.
+    absurd (too_full c.args.a.now c.args.b.now leaf next c.used_of.result c.used_of-2.result na.0 nb.0 c.used_of.ensures c.used_of-2.ensures (omega (arith, c.if-used_of-gt-PAGE_ROOM.true)) fits)
 
 pub returns : goal.returns
 returns c = λ leaf next na nb up fits.

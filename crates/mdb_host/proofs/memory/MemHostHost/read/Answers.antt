@@ -13,7 +13,7 @@ invariant_of-self c = record {
 }
 
 pub returns-then-is_due-clause-calls : goal.returns-then-is_due-clause-calls
-returns-then-is_due-clause-calls c told = idle_calls (image_of c.args.self.now.start.slots.items) c.args.self.now.calls.items c.keep_idle.new.calls.items Agree (λ image e. refl) c.keep_idle.ensures
+returns-then-is_due-clause-calls c = idle_calls (image_of c.args.self.now.start.slots.items) c.args.self.now.calls.items c.keep_idle.new.calls.items Agree (λ image e. refl) c.keep_idle.ensures
 
 pub invariant_of-self-in-Ok : goal.invariant_of-self-in-Ok
 invariant_of-self-in-Ok c = record {
@@ -23,7 +23,7 @@ invariant_of-self-in-Ok c = record {
 }
 
 pub read-requires : goal.read-requires
-read-requires c = let within = c.requires.within tt in (within.0, ap size_of (λ i. c.args.self.now.seen i c.args.device) ∙ within.1, within.2)
+read-requires c = let within = c.requires.within in (within.0, ap size_of (λ i. c.args.self.now.seen i c.args.device) ∙ within.1, within.2)
 
 pub returns-clause-calls : goal.returns-clause-calls
-returns-clause-calls c told = idle_calls (image_of c.args.self.now.start.slots.items) c.args.self.now.calls.items c.keep.new.calls.items Agree (λ image e. refl) (inr c.in-Ok.ensures.kept)
+returns-clause-calls c = idle_calls (image_of c.args.self.now.start.slots.items) c.args.self.now.calls.items c.keep.new.calls.items Agree (λ image e. refl) (inr c.in-Ok.ensures.kept)

@@ -13,7 +13,7 @@ invariant_of-self c = record {
 }
 
 pub returns-then-is_due-clause-calls : goal.returns-then-is_due-clause-calls
-returns-then-is_due-clause-calls c told = idle_calls (image_of c.args.self.now.start.slots.items) c.args.self.now.calls.items c.keep_idle.new.calls.items (Removed c.args.device) (removed_none c.args.device) c.keep_idle.ensures
+returns-then-is_due-clause-calls c = idle_calls (image_of c.args.self.now.start.slots.items) c.args.self.now.calls.items c.keep_idle.new.calls.items (Removed c.args.device) (removed_none c.args.device) c.keep_idle.ensures
 
 pub invariant_of-self-2 : goal.invariant_of-self-2
 invariant_of-self-2 c = record {
@@ -23,4 +23,4 @@ invariant_of-self-2 c = record {
 }
 
 pub returns-clause-calls : goal.returns-clause-calls
-returns-clause-calls c told = removed_calls (image_of c.args.self.now.start.slots.items) c.args.self.now.calls.items c.keep.new.calls.items c.args.device c.in-Ok.ensures.kept
+returns-clause-calls c = removed_calls (image_of c.args.self.now.start.slots.items) c.args.self.now.calls.items c.keep.new.calls.items c.args.device c.in-Ok.ensures.kept

@@ -12,7 +12,7 @@ invariant_of-self c = record {
 }
 
 pub returns-then-is_due-clause-says : goal.returns-then-is_due-clause-says
-returns-then-is_due-clause-says c told =
+returns-then-is_due-clause-says c =
     part_says (image_of c.args.self.now.start.slots.items) c.args.self.now.calls.items c.keep_front.new.calls.items c.args.self.now.output.items c.keep_front.new.output.items _ c.args.text.now (length c.args.text.now / 2) (omega arith) (grind arith) c.keep_front.ensures
 
 pub invariant_of-self-in-Ok : goal.invariant_of-self-in-Ok
@@ -23,5 +23,5 @@ invariant_of-self-in-Ok c = record {
 }
 
 pub returns-clause-says : goal.returns-clause-says
-returns-clause-says c told =
+returns-clause-says c =
     part_says (image_of c.args.self.now.start.slots.items) c.args.self.now.calls.items c.keep_text.new.calls.items c.args.self.now.output.items c.keep_text.new.output.items c.args.text.now c.args.text.now (length c.args.text.now) (omega arith) (sym (take_all (length c.args.text.now) c.args.text.now (omega arith))) (inr c.in-Ok.ensures.kept)

@@ -13,7 +13,7 @@ invariant_of-self c = record {
 }
 
 pub returns-then-is_due-clause-calls : goal.returns-then-is_due-clause-calls
-returns-then-is_due-clause-calls c told = idle_calls (image_of c.args.self.now.start.slots.items) c.args.self.now.calls.items c.keep_idle.new.calls.items Agree (λ image e. refl) c.keep_idle.ensures
+returns-then-is_due-clause-calls c = idle_calls (image_of c.args.self.now.start.slots.items) c.args.self.now.calls.items c.keep_idle.new.calls.items Agree (λ image e. refl) c.keep_idle.ensures
 
 pub invariant_of-self-in-Ok : goal.invariant_of-self-in-Ok
 invariant_of-self-in-Ok c = record {
@@ -23,7 +23,7 @@ invariant_of-self-in-Ok c = record {
 }
 
 pub returns-clause-calls : goal.returns-clause-calls
-returns-clause-calls c told = synced_calls (image_of c.args.self.now.start.slots.items) c.args.self.now.calls.items c.keep.new.calls.items c.args.device c.in-Ok.ensures.kept
+returns-clause-calls c = synced_calls (image_of c.args.self.now.start.slots.items) c.args.self.now.calls.items c.keep.new.calls.items c.args.device c.in-Ok.ensures.kept
 
 pub returns-clause-synced : goal.returns-clause-synced
-returns-clause-synced c told = synced_left (image_of c.args.self.now.start.slots.items) c.args.self.now.calls.items c.keep.new.calls.items c.args.device c.in-Ok.ensures.kept
+returns-clause-synced c = synced_left (image_of c.args.self.now.start.slots.items) c.args.self.now.calls.items c.keep.new.calls.items c.args.device c.in-Ok.ensures.kept

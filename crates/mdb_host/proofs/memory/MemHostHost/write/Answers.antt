@@ -12,7 +12,7 @@ invariant_of-self c = record {
 }
 
 pub returns-then-is_due-clause-calls : goal.returns-then-is_due-clause-calls
-returns-then-is_due-clause-calls c told = tore_calls (image_of c.args.self.now.start.slots.items) c.args.self.now.calls.items c.keep_tear.new.calls.items c.args.device c.args.at c.args.from.now c.keep_tear.ensures
+returns-then-is_due-clause-calls c = tore_calls (image_of c.args.self.now.start.slots.items) c.args.self.now.calls.items c.keep_tear.new.calls.items c.args.device c.args.at c.args.from.now c.keep_tear.ensures
 
 pub invariant_of-self-2 : goal.invariant_of-self-2
 invariant_of-self-2 c = record {
@@ -22,4 +22,4 @@ invariant_of-self-2 c = record {
 }
 
 pub returns-clause-calls : goal.returns-clause-calls
-returns-clause-calls c told = wrote_calls (image_of c.args.self.now.start.slots.items) c.args.self.now.calls.items c.keep.new.calls.items c.args.device c.args.at c.args.from.now c.in-Ok.range c.in-Ok.ensures c.in-Ok-keep.ensures.kept
+returns-clause-calls c = wrote_calls (image_of c.args.self.now.start.slots.items) c.args.self.now.calls.items c.keep.new.calls.items c.args.device c.args.at c.args.from.now c.in-Ok.range c.in-Ok.ensures c.in-Ok-keep.ensures.kept

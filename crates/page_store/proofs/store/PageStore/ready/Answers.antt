@@ -7,24 +7,24 @@ use Rattle.page_store.proofs.store.PageStore.ready.Goals as goal
 
 pub pay-b-requires-clause-lives : goal.pay-b-requires-clause-lives
 pay-b-requires-clause-lives g c =
-    let shows = c.in-Ok.ensures.shows in
+    let shows = c.in_ok-filled.ensures.shows in
     omega (arith, shows.was, shows.block, c.requires.lives)
 
 pub pay-b-requires-clause-framed : goal.pay-b-requires-clause-framed
 pay-b-requires-clause-framed g c =
-    let shows = c.in-Ok.ensures.shows in
+    let shows = c.in_ok-filled.ensures.shows in
     (shows.framed.0, ap (frame_of c.filled.new.self) shows.block ∙ shows.framed.1)
 
 pub pay-b-requires-clause-spare : goal.pay-b-requires-clause-spare
 pay-b-requires-clause-spare g c held =
-    let shows = c.in-Ok.ensures.shows in
+    let shows = c.in_ok-filled.ensures.shows in
     let s = c.args.self.now in
     let m = c.filled.new.self in
     let some = c.requires.spare (subst (λ (x : ℕ). IsHeld s x) (shows.block ∙ sym shows.was) (held_back s m (page_block m c.args.page) shows.step.keeps held)) in
     omega (arith, some, ap (λ (l : List Bool). free_count l) shows.free)
 
-pub returns-in-Ok-clause-ready : goal.returns-in-Ok-clause-ready
-returns-in-Ok-clause-ready g c =
-    let shows = c.in-Ok.ensures.shows in
-    ready_is g.H.Host.tells c.args.self.now c.filled.new.self c.pay-b.new.self c.args.page c.in-Ok.field-0 c.pay-b.result (g.H.Host.disk c.args.host.now).seen
-    (omega (arith, shows.was, c.requires.lives)) shows c.in-Ok.ensures.store (omega (arith, c.filled.ensures.page, shows.step.keeps.area)) c.blocks-blocks.ensures.sound c.pay-b.ensures
+pub returns-clause-ready : goal.returns-clause-ready
+returns-clause-ready g c =
+    let shows = c.in_ok-filled.ensures.shows in
+    ready_is g.H.Host.tells c.args.self.now c.filled.new.self c.pay-b.new.self c.args.page c.in_ok-filled.field-0 c.pay-b.result (g.H.Host.disk c.args.host.now).seen
+    (omega (arith, shows.was, c.requires.lives)) shows c.in_ok-filled.ensures.store (omega (arith, c.filled.ensures.page, shows.step.keeps.area)) c.blocks-blocks.ensures.sound c.pay-b.ensures

@@ -1,4 +1,4 @@
-use Rattle.std.proofs.Common.{sym, subst, arith}
+use Rattle.std.proofs.Common.{◌≡◌, sym, subst, arith}
 use Rattle.mdb_bytes.specs.Paged.{price}
 use Rattle.mdb_model.specs.Images.{Image}
 use Rattle.mdb_host.specs.Disk.{Agree}
@@ -11,6 +11,8 @@ use Rattle.page_store.specs.Steps.{KeepsPages}
 use Rattle.page_store.proofs.Spares.{some_free}
 use Rattle.page_store.proofs.Views.{price_held}
 use Rattle.page_store.proofs.Pairs.{ready_seen, ready_keeps, second_spare}
+use Rattle.mdb_model.specs.declared.fault.PageFault.TheVariants.{Failed}
+use Rattle.page_store.proofs.Answering.{on_passed, if_passed}
 use Rattle.page_store.proofs.store.PageStore.ready_both.Goals as goal
 
 pub ready-requires-clause-spare : goal.ready-requires-clause-spare
@@ -20,32 +22,34 @@ ready-requires-clause-spare g c held =
 
 pub ready-requires-2-clause-spare : goal.ready-requires-2-clause-spare
 ready-requires-2-clause-spare g c =
-    second_spare g.H.Host.tells c.args.self.now c.ready.new.self c.args.a c.args.b c.in-Ok.first c.in-Ok.first (g.H.Host.disk c.args.host.now).seen c.requires.differ c.requires.lives.0 c.requires.lives.1 c.requires.room
-    c.ready.new.self c.in-Ok.ensures.ready
+    second_spare g.H.Host.tells c.args.self.now c.ready.new.self c.args.a c.args.b c.in_ok-first.first c.in_ok-first.first (g.H.Host.disk c.args.host.now).seen c.requires.differ c.requires.lives.0 c.requires.lives.1 c.requires.room
+    c.ready.new.self c.in_ok-first.ensures.ready
 
-pub returns-in-Ok-ready-clause-both : goal.returns-in-Ok-ready-clause-both
-returns-in-Ok-ready-clause-both g c = record {
+pub returns-clause-both : goal.returns-clause-both
+returns-clause-both g c = record {
   mid = c.ready.new.self;
-  first = c.in-Ok.ensures.ready;
-  second = ready_seen g.H.Host.tells c.ready.new.self c.ready-2.new.self c.args.b c.in-Ok-ready.second (g.H.Host.disk c.args.host.now).seen (g.H.Host.disk c.ready.new.host).seen c.ready.ensures.seen c.in-Ok-ready.ensures.ready;
+  first = c.in_ok-first.ensures.ready;
+  second = ready_seen g.H.Host.tells c.ready.new.self c.ready-2.new.self c.args.b c.in_ok-second.second (g.H.Host.disk c.args.host.now).seen (g.H.Host.disk c.ready.new.host).seen c.ready.ensures.seen c.in_ok-second.ensures.ready;
 }
 
-pub returns-in-Ok-ready-clause-calm : goal.returns-in-Ok-ready-clause-calm
-returns-in-Ok-ready-clause-calm g c told = onward _ _ _ Agree (λ x y z. agree_on x y z) (c.ready.ensures.calm told) (c.ready-2.ensures.calm told)
+pub returns-clause-calm : goal.returns-clause-calm
+returns-clause-calm g c told = onward _ _ _ Agree (λ x y z. agree_on x y z) (c.ready.ensures.calm told) (c.ready-2.ensures.calm told)
 
-pub returns-in-Err-ready-clause-kept : goal.returns-in-Err-ready-clause-kept
-returns-in-Err-ready-clause-kept g c =
+pub returns-in_err-second-clause-kept : goal.returns-in_err-second-clause-kept
+returns-in_err-second-clause-kept g c =
     let s = c.args.self.now in
     let seen = (g.H.Host.disk c.args.host.now).seen in
-    subst (λ (t : Store). KeepsPages g.H.Host.tells s t c.args.a (price (paid_pages s) c.args.a) seen) (sym c.in-Err-ready.ensures.err)
-    (ready_keeps g.H.Host.tells s c.ready.new.self c.args.a c.in-Ok.first seen c.requires.lives.0 (omega (arith, c.requires.room)) c.in-Ok.ensures.ready)
+    on_passed c.in_err-second.field-0.0 c.from_residual-in_err-second.result c.from_residual-in_err-second.ensures.1
+    (subst (λ (t : Store). KeepsPages g.H.Host.tells s t c.args.a (price (paid_pages s) c.args.a) seen) (sym c.in_err-second.ensures.err)
+    (ready_keeps g.H.Host.tells s c.ready.new.self c.args.a c.in_ok-first.first seen c.requires.lives.0 (omega (arith, c.requires.room)) c.in_ok-first.ensures.ready))
 
-pub returns-in-Err-ready-clause-calm : goal.returns-in-Err-ready-clause-calm
-returns-in-Err-ready-clause-calm g c told = onward _ _ _ Agree (λ x y z. agree_on x y z) (c.ready.ensures.calm told) (c.ready-2.ensures.calm told)
+pub returns-in_err-second-clause-calm : goal.returns-in_err-second-clause-calm
+returns-in_err-second-clause-calm g c told = onward _ _ _ Agree (λ x y z. agree_on x y z) (c.ready.ensures.calm told) (c.ready-2.ensures.calm told)
 
-pub returns-in-Err-ready-clause-whole : goal.returns-in-Err-ready-clause-whole
-returns-in-Err-ready-clause-whole g c known =
+pub returns-in_err-second-clause-whole : goal.returns-in_err-second-clause-whole
+returns-in_err-second-clause-whole g c known =
     let seen = (g.H.Host.disk c.args.host.now).seen in
     let then = (g.H.Host.disk c.ready.new.host).seen in
-    let there = (c.in-Ok.ensures.ready.step.known known).there in
-    c.in-Err-ready.ensures.whole known.told (subst (λ (x : Image). IsArea c.ready.new.self.sizes x) (same_image seen then (c.ready.ensures.seen known.told)) there)
+    let there = (c.in_ok-first.ensures.ready.step.known known).there in
+    if_passed (λ fault. fault ≡ Failed) c.in_err-second.field-0.0 c.from_residual-in_err-second.result c.from_residual-in_err-second.ensures.1
+    (c.in_err-second.ensures.whole known.told (subst (λ (x : Image). IsArea c.ready.new.self.sizes x) (same_image seen then (c.ready.ensures.seen known.told)) there))

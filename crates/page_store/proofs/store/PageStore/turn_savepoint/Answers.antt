@@ -39,20 +39,20 @@ loop-page-preserved g c =
     let p = c.loop-page.page in
     let i = c.loop-page.invariant in
     let t = c.turn_page.ensures.turns in
-    let r = c.in-Ok.ensures in
+    let r = c.in_ok-done.ensures in
     let same : is_unwritten a p ≡ is_unwritten s p = i.rest p (omega arith) in
     let before : unwritten_below b p ≡ unwritten_below a p = same_below a b p (λ k lt. t.others k (λ is. omega (arith, is, lt))) in
     let grown = below_more s p in
-    let all : c.loop-page.written < c.args.most → c.in-Ok.kept ≡ 0 = λ lt. r.all (lt-ltb c.loop-page.written c.args.most lt) in
+    let all : c.loop-page.written < c.args.most → c.in_ok-done.kept ≡ 0 = λ lt. r.all (lt-ltb c.loop-page.written c.args.most lt) in
     let total = ap bit same in
-    let none : c.args.most ≤ c.loop-page.written → c.in-Ok.done ≡ 0 = λ le. r.none (le-ltb c.loop-page.written c.args.most le) in
+    let none : c.args.most ≤ c.loop-page.written → c.in_ok-done.done ≡ 0 = λ le. r.none (le-ltb c.loop-page.written c.args.most le) in
     record {
       turned = turned_on s a b i.turned t.turned;
       keeps = keeps_further g.H.Host.tells s a b (g.H.Host.disk c.args.host.now) (g.H.Host.disk c.loop-page.host) (g.H.Host.disk c.turn_page.new.host) i.keeps t.keeps;
       rest = λ k le. t.others k (λ is. omega (arith, is, le)) ∙ i.rest k (omega (arith, le));
       still = omega (arith, below_more b p, before, i.still, r.left);
       total = omega (arith, grown, i.total, r.done, total);
-      over = over_more c.loop-page.written c.loop-page.left c.in-Ok.done c.in-Ok.kept c.args.most (unwritten_below s p) (unwritten_below s (p + 1)) (bit (is_unwritten s p)) grown i.total i.over (r.done ∙ total) (bit_small (is_unwritten s p)) all none;
+      over = over_more c.loop-page.written c.loop-page.left c.in_ok-done.done c.in_ok-done.kept c.args.most (unwritten_below s p) (unwritten_below s (p + 1)) (bit (is_unwritten s p)) grown i.total i.over (r.done ∙ total) (bit_small (is_unwritten s p)) all none;
       few = omega (arith, i.few, r.done, bit_small (is_unwritten a p));
       faults = omega (arith, c.turn_page.ensures.cause.later, i.faults);
       say_faults = c.turn_page.ensures.say_faults ∙ i.say_faults;
@@ -89,10 +89,10 @@ returns-clause-done g c none page =
       | inr past ↦ none_past u page e.sound e.store past
     ]
 
-pub returns-in-Err-clause-turned : goal.returns-in-Err-clause-turned
-returns-in-Err-clause-turned g c = turned_on c.args.self.now c.loop-page.self c.turn_page.new.self c.loop-page.invariant.turned c.turn_page.ensures.turns.turned
+pub returns-in_err-done-clause-turned : goal.returns-in_err-done-clause-turned
+returns-in_err-done-clause-turned g c = turned_on c.args.self.now c.loop-page.self c.turn_page.new.self c.loop-page.invariant.turned c.turn_page.ensures.turns.turned
 
-pub returns-in-Err-clause-keeps : goal.returns-in-Err-clause-keeps
-returns-in-Err-clause-keeps g c =
+pub returns-in_err-done-clause-keeps : goal.returns-in_err-done-clause-keeps
+returns-in_err-done-clause-keeps g c =
     keeps_further g.H.Host.tells c.args.self.now c.loop-page.self c.turn_page.new.self (g.H.Host.disk c.args.host.now) (g.H.Host.disk c.loop-page.host) (g.H.Host.disk c.turn_page.new.host)
     c.loop-page.invariant.keeps c.turn_page.ensures.turns.keeps

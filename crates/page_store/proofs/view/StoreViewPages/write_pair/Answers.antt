@@ -3,6 +3,7 @@ use Rattle.mdb_bytes.specs.Paged.{price, AreEdited, StayPaid}
 use Rattle.page_store.specs.Store.{Store, IsKnown, spare_of}
 use Rattle.page_store.specs.LogicalPages.{pages_of, paid_pages}
 use Rattle.page_store.specs.Steps.{Keeps}
+use Rattle.page_store.proofs.Answering.{on_passed}
 use Rattle.page_store.proofs.Views.{live_needs}
 use Rattle.page_store.proofs.Follows.{keeps_page}
 use Rattle.page_store.proofs.Pairs.{apart, changed_a, below_a, bytes_a, bytes_b, pair_paid, pair_spare, pair_edited, pair_keeps, kept_pages}
@@ -25,8 +26,8 @@ edit_both-answer-requires-clause-below g c =
     let after = g.H.Host.disk c.ready_both.new.host in
     let la = (live_needs s before.seen c.args.a c.requires.lives.0).0 in
     let lb = (live_needs s before.seen c.args.b c.requires.lives.1).0 in
-    let both = c.in-Ok.ensures.both in
-    (below_a g.H.Host.tells s u c.args.a c.args.b c.in-Ok.first c.in-Ok.second before.seen c.requires.differ la lb c.requires.room both.mid both.first both.second c.in-Ok.ensures.store, both.second.below)
+    let both = c.in_ok-first.ensures.both in
+    (below_a g.H.Host.tells s u c.args.a c.args.b c.in_ok-first.first c.in_ok-first.second before.seen c.requires.differ la lb c.requires.room both.mid both.first both.second c.in_ok-first.ensures.store, both.second.below)
 
 pub edit_both-answer-requires-clause-changed : goal.edit_both-answer-requires-clause-changed
 edit_both-answer-requires-clause-changed g c =
@@ -36,8 +37,8 @@ edit_both-answer-requires-clause-changed g c =
     let after = g.H.Host.disk c.ready_both.new.host in
     let la = (live_needs s before.seen c.args.a c.requires.lives.0).0 in
     let lb = (live_needs s before.seen c.args.b c.requires.lives.1).0 in
-    let both = c.in-Ok.ensures.both in
-    (changed_a g.H.Host.tells s u c.args.a c.args.b c.in-Ok.first c.in-Ok.second before.seen c.requires.differ la lb c.requires.room both.mid both.first both.second c.in-Ok.ensures.store, both.second.changed)
+    let both = c.in_ok-first.ensures.both in
+    (changed_a g.H.Host.tells s u c.args.a c.args.b c.in_ok-first.first c.in_ok-first.second before.seen c.requires.differ la lb c.requires.room both.mid both.first both.second c.in_ok-first.ensures.store, both.second.changed)
 
 pub edit_both-answer-requires-clause-differ : goal.edit_both-answer-requires-clause-differ
 edit_both-answer-requires-clause-differ g c =
@@ -47,8 +48,8 @@ edit_both-answer-requires-clause-differ g c =
     let after = g.H.Host.disk c.ready_both.new.host in
     let la = (live_needs s before.seen c.args.a c.requires.lives.0).0 in
     let lb = (live_needs s before.seen c.args.b c.requires.lives.1).0 in
-    let both = c.in-Ok.ensures.both in
-    apart g.H.Host.tells s u c.args.a c.args.b c.in-Ok.first c.in-Ok.second before.seen c.requires.differ la lb c.requires.room both.mid both.first both.second c.in-Ok.ensures.store
+    let both = c.in_ok-first.ensures.both in
+    apart g.H.Host.tells s u c.args.a c.args.b c.in_ok-first.first c.in_ok-first.second before.seen c.requires.differ la lb c.requires.room both.mid both.first both.second c.in_ok-first.ensures.store
 
 pub edit_both-answer-requires-clause-may : goal.edit_both-answer-requires-clause-may
 edit_both-answer-requires-clause-may g c one two lone ltwo fone ftwo =
@@ -58,99 +59,100 @@ edit_both-answer-requires-clause-may g c one two lone ltwo fone ftwo =
     let after = g.H.Host.disk c.ready_both.new.host in
     let la = (live_needs s before.seen c.args.a c.requires.lives.0).0 in
     let lb = (live_needs s before.seen c.args.b c.requires.lives.1).0 in
-    let both = c.in-Ok.ensures.both in
-    c.requires.may one two lone ltwo (λ known. (bytes_a g.H.Host.tells s u c.args.a c.args.b c.in-Ok.first c.in-Ok.second before.seen c.requires.differ la lb c.requires.room both.mid both.first both.second c.in-Ok.ensures.store one fone known, bytes_b g.H.Host.tells s u c.args.a c.args.b c.in-Ok.first c.in-Ok.second before.seen c.requires.differ la lb c.requires.room both.mid both.first both.second c.in-Ok.ensures.store two ftwo known))
+    let both = c.in_ok-first.ensures.both in
+    c.requires.may one two lone ltwo (λ known. (bytes_a g.H.Host.tells s u c.args.a c.args.b c.in_ok-first.first c.in_ok-first.second before.seen c.requires.differ la lb c.requires.room both.mid both.first both.second c.in_ok-first.ensures.store one fone known, bytes_b g.H.Host.tells s u c.args.a c.args.b c.in_ok-first.first c.in_ok-first.second before.seen c.requires.differ la lb c.requires.room both.mid both.first both.second c.in_ok-first.ensures.store two ftwo known))
 
-pub returns-in-Ok-clause-edited : goal.returns-in-Ok-clause-edited
-returns-in-Ok-clause-edited g c =
+pub returns-clause-edited : goal.returns-clause-edited
+returns-clause-edited g c =
     let s = c.args.self.now.store.now in
     let u = c.ready_both.new.self in
     let before = g.H.Host.disk c.args.self.now.host.now in
     let after = g.H.Host.disk c.ready_both.new.host in
     let la = (live_needs s before.seen c.args.a c.requires.lives.0).0 in
     let lb = (live_needs s before.seen c.args.b c.requires.lives.1).0 in
-    let both = c.in-Ok.ensures.both in
+    let both = c.in_ok-first.ensures.both in
     let e = c.edit_both-answer.ensures in
     let does = g.E.PairEdit.does c.args.edit.now c.edit_both-answer.result in
     subst (λ (t : Store). AreEdited does c.args.a c.args.b (IsKnown g.H.Host.tells s before.seen) (IsKnown g.H.Host.tells t after.seen) (pages_of s before.seen) (pages_of t after.seen) (paid_pages s) (paid_pages t)) (sym e.is)
-    (pair_edited g.H.Host.tells s u c.args.a c.args.b c.in-Ok.first c.in-Ok.second before.seen c.requires.differ la lb c.requires.room both.mid both.first both.second c.in-Ok.ensures.store e.one_now e.two_now does e.one e.two after.seen c.ready_both.ensures.seen e.one_was e.two_was e.edited)
+    (pair_edited g.H.Host.tells s u c.args.a c.args.b c.in_ok-first.first c.in_ok-first.second before.seen c.requires.differ la lb c.requires.room both.mid both.first both.second c.in_ok-first.ensures.store e.one_now e.two_now does e.one e.two after.seen c.ready_both.ensures.seen e.one_was e.two_was e.edited)
 
-pub returns-in-Ok-clause-stay_paid : goal.returns-in-Ok-clause-stay_paid
-returns-in-Ok-clause-stay_paid g c =
+pub returns-clause-stay_paid : goal.returns-clause-stay_paid
+returns-clause-stay_paid g c =
     let s = c.args.self.now.store.now in
     let u = c.ready_both.new.self in
     let before = g.H.Host.disk c.args.self.now.host.now in
     let after = g.H.Host.disk c.ready_both.new.host in
     let la = (live_needs s before.seen c.args.a c.requires.lives.0).0 in
     let lb = (live_needs s before.seen c.args.b c.requires.lives.1).0 in
-    let both = c.in-Ok.ensures.both in
+    let both = c.in_ok-first.ensures.both in
     let e = c.edit_both-answer.ensures in
-    subst (λ (t : Store). StayPaid (paid_pages s) (paid_pages t)) (sym e.is) (pair_paid g.H.Host.tells s u c.args.a c.args.b c.in-Ok.first c.in-Ok.second before.seen c.requires.differ la lb c.requires.room both.mid both.first both.second c.in-Ok.ensures.store e.one_now e.two_now)
+    subst (λ (t : Store). StayPaid (paid_pages s) (paid_pages t)) (sym e.is) (pair_paid g.H.Host.tells s u c.args.a c.args.b c.in_ok-first.first c.in_ok-first.second before.seen c.requires.differ la lb c.requires.room both.mid both.first both.second c.in_ok-first.ensures.store e.one_now e.two_now)
 
-pub returns-in-Ok-clause-spare : goal.returns-in-Ok-clause-spare
-returns-in-Ok-clause-spare g c =
+pub returns-clause-spare : goal.returns-clause-spare
+returns-clause-spare g c =
     let s = c.args.self.now.store.now in
     let u = c.ready_both.new.self in
     let before = g.H.Host.disk c.args.self.now.host.now in
     let after = g.H.Host.disk c.ready_both.new.host in
     let la = (live_needs s before.seen c.args.a c.requires.lives.0).0 in
     let lb = (live_needs s before.seen c.args.b c.requires.lives.1).0 in
-    let both = c.in-Ok.ensures.both in
+    let both = c.in_ok-first.ensures.both in
     let e = c.edit_both-answer.ensures in
-    subst (λ (t : Store). spare_of s ≤ spare_of t + price (paid_pages s) c.args.a + price (paid_pages s) c.args.b) (sym e.is) (pair_spare g.H.Host.tells s u c.args.a c.args.b c.in-Ok.first c.in-Ok.second before.seen c.requires.differ la lb c.requires.room both.mid both.first both.second c.in-Ok.ensures.store e.one_now e.two_now)
+    subst (λ (t : Store). spare_of s ≤ spare_of t + price (paid_pages s) c.args.a + price (paid_pages s) c.args.b) (sym e.is) (pair_spare g.H.Host.tells s u c.args.a c.args.b c.in_ok-first.first c.in_ok-first.second before.seen c.requires.differ la lb c.requires.room both.mid both.first both.second c.in_ok-first.ensures.store e.one_now e.two_now)
 
-pub returns-in-Ok-clause-follows : goal.returns-in-Ok-clause-follows
-returns-in-Ok-clause-follows g c =
+pub returns-clause-follows : goal.returns-clause-follows
+returns-clause-follows g c =
     let s = c.args.self.now.store.now in
     let u = c.ready_both.new.self in
     let before = g.H.Host.disk c.args.self.now.host.now in
     let after = g.H.Host.disk c.ready_both.new.host in
     let la = (live_needs s before.seen c.args.a c.requires.lives.0).0 in
     let lb = (live_needs s before.seen c.args.b c.requires.lives.1).0 in
-    let both = c.in-Ok.ensures.both in
+    let both = c.in_ok-first.ensures.both in
     let e = c.edit_both-answer.ensures in
-    (refl, refl, subst (λ (t : Store). Keeps g.H.Host.tells s t before after) (sym e.is) (pair_keeps g.H.Host.tells s u c.args.a c.args.b c.in-Ok.first c.in-Ok.second before.seen c.requires.differ la lb c.requires.room both.mid both.first both.second c.in-Ok.ensures.store e.one_now e.two_now before after refl c.ready_both.ensures.calm c.ready_both.ensures.seen), c.ready_both.ensures.say_faults)
+    (refl, refl, subst (λ (t : Store). Keeps g.H.Host.tells s t before after) (sym e.is) (pair_keeps g.H.Host.tells s u c.args.a c.args.b c.in_ok-first.first c.in_ok-first.second before.seen c.requires.differ la lb c.requires.room both.mid both.first both.second c.in_ok-first.ensures.store e.one_now e.two_now before after refl c.ready_both.ensures.calm c.ready_both.ensures.seen), c.ready_both.ensures.say_faults)
 
-pub returns-in-Err-clause-kept : goal.returns-in-Err-clause-kept
-returns-in-Err-clause-kept g c =
+pub returns-in_err-first-clause-kept : goal.returns-in_err-first-clause-kept
+returns-in_err-first-clause-kept g c =
     let s = c.args.self.now.store.now in
     let u = c.ready_both.new.self in
     let before = g.H.Host.disk c.args.self.now.host.now in
     let after = g.H.Host.disk c.ready_both.new.host in
     let la = (live_needs s before.seen c.args.a c.requires.lives.0).0 in
     let most = price (paid_pages s) c.args.a in
-    let kept = c.in-Err.ensures.kept in
-    kept_pages g.H.Host.tells s u c.args.a most (most + price (paid_pages s) c.args.b) before.seen after.seen c.ready_both.ensures.seen c.ready_both.ensures.sound la (omega arith) kept
+    let kept = c.in_err-first.ensures.kept in
+    on_passed c.in_err-first.field-0.0 c.from_residual.result c.from_residual.ensures.1
+    (kept_pages g.H.Host.tells s u c.args.a most (most + price (paid_pages s) c.args.b) before.seen after.seen c.ready_both.ensures.seen c.ready_both.ensures.sound la (omega arith) kept)
 
-pub returns-in-Err-clause-stay_paid : goal.returns-in-Err-clause-stay_paid
-returns-in-Err-clause-stay_paid g c =
+pub returns-in_err-first-clause-stay_paid : goal.returns-in_err-first-clause-stay_paid
+returns-in_err-first-clause-stay_paid g c =
     let s = c.args.self.now.store.now in
     let u = c.ready_both.new.self in
     let before = g.H.Host.disk c.args.self.now.host.now in
     let after = g.H.Host.disk c.ready_both.new.host in
     let la = (live_needs s before.seen c.args.a c.requires.lives.0).0 in
     let most = price (paid_pages s) c.args.a in
-    let kept = c.in-Err.ensures.kept in
+    let kept = c.in_err-first.ensures.kept in
     (kept_pages g.H.Host.tells s u c.args.a most most before.seen after.seen c.ready_both.ensures.seen c.ready_both.ensures.sound la (omega arith) kept).stay_paid
 
-pub returns-in-Err-clause-spare : goal.returns-in-Err-clause-spare
-returns-in-Err-clause-spare g c =
+pub returns-in_err-first-clause-spare : goal.returns-in_err-first-clause-spare
+returns-in_err-first-clause-spare g c =
     let s = c.args.self.now.store.now in
     let u = c.ready_both.new.self in
     let before = g.H.Host.disk c.args.self.now.host.now in
     let after = g.H.Host.disk c.ready_both.new.host in
     let la = (live_needs s before.seen c.args.a c.requires.lives.0).0 in
     let most = price (paid_pages s) c.args.a in
-    let kept = c.in-Err.ensures.kept in
+    let kept = c.in_err-first.ensures.kept in
     omega (arith, (kept_pages g.H.Host.tells s u c.args.a most most before.seen after.seen c.ready_both.ensures.seen c.ready_both.ensures.sound la (omega arith) kept).left)
 
-pub returns-in-Err-clause-follows : goal.returns-in-Err-clause-follows
-returns-in-Err-clause-follows g c =
+pub returns-in_err-first-clause-follows : goal.returns-in_err-first-clause-follows
+returns-in_err-first-clause-follows g c =
     let s = c.args.self.now.store.now in
     let u = c.ready_both.new.self in
     let before = g.H.Host.disk c.args.self.now.host.now in
     let after = g.H.Host.disk c.ready_both.new.host in
     let la = (live_needs s before.seen c.args.a c.requires.lives.0).0 in
     let most = price (paid_pages s) c.args.a in
-    let kept = c.in-Err.ensures.kept in
+    let kept = c.in_err-first.ensures.kept in
     (refl, refl, keeps_page g.H.Host.tells s u c.args.a before after kept.step c.ready_both.ensures.calm c.ready_both.ensures.seen kept.room, c.ready_both.ensures.say_faults)

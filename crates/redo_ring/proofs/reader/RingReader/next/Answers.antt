@@ -4,15 +4,15 @@ use Rattle.redo_ring.proofs.Places.{agree_on}
 use Rattle.redo_ring.proofs.Found.{none_of, next_of, gate_shut, finds_no_room, finds_other, finds_group, stood}
 use Rattle.redo_ring.proofs.reader.RingReader.next.Goals as goal
 
-pub returns-then-head-ne-OPEN-clause-next : goal.returns-then-head-ne-OPEN-clause-next
-returns-then-head-ne-OPEN-clause-next g c told commits log fits =
-    none_of c.args.self.now.size c.args.self.now.name (ring_byte c.args.self.now.size (g.H.Host.disk c.args.host.now).seen) c.args.self.now.start c.args.self.now.position c.args.self.now.number (gate_shut c.args.self.now.size c.args.self.now.name (ring_byte c.args.self.now.size (g.H.Host.disk c.args.host.now).seen) c.args.self.now.start c.args.self.now.position c.args.self.now.number c.read_ring.new.into (omega (arith, c.read_ring.auto.into)) (c.in-Ok.ensures.bytes told) c.if-head-ne-OPEN.true) commits log
+pub returns-then-head-ne-OPEN_GATE-clause-next : goal.returns-then-head-ne-OPEN_GATE-clause-next
+returns-then-head-ne-OPEN_GATE-clause-next g c told commits log fits =
+    none_of c.args.self.now.size c.args.self.now.name (ring_byte c.args.self.now.size (g.H.Host.disk c.args.host.now).seen) c.args.self.now.start c.args.self.now.position c.args.self.now.number (gate_shut c.args.self.now.size c.args.self.now.name (ring_byte c.args.self.now.size (g.H.Host.disk c.args.host.now).seen) c.args.self.now.start c.args.self.now.position c.args.self.now.number c.read_ring.new.into (omega (arith, c.read_ring.auto.into)) (c.in-Ok.ensures.bytes told) c.if-head-ne-OPEN_GATE.true) commits log
 
 pub returns-then-not-has_room-clause-finds : goal.returns-then-not-has_room-clause-finds
-returns-then-not-has_room-clause-finds g c told = finds_no_room c.args.self.now.size c.args.self.now.name (ring_byte c.args.self.now.size (g.H.Host.disk c.args.host.now).seen) c.args.self.now.start c.args.self.now.position c.args.self.now.number c.read_ring.new.into (omega (arith, c.read_ring.auto.into)) (c.in-Ok.ensures.bytes told) c.if-head-ne-OPEN.false c.group_len-bytes.result c.group_len-bytes.ensures c.damage.result c.damage.ensures c.args.into.now c.if-not-has_room.ensures
+returns-then-not-has_room-clause-finds g c told = finds_no_room c.args.self.now.size c.args.self.now.name (ring_byte c.args.self.now.size (g.H.Host.disk c.args.host.now).seen) c.args.self.now.start c.args.self.now.position c.args.self.now.number c.read_ring.new.into (omega (arith, c.read_ring.auto.into)) (c.in-Ok.ensures.bytes told) c.if-head-ne-OPEN_GATE.false c.group_len-bytes.result c.group_len-bytes.ensures c.damage.result c.damage.ensures c.args.into.now c.if-not-has_room.ensures
 
 pub returns-then-not-has_room-clause-next : goal.returns-then-not-has_room-clause-next
-returns-then-not-has_room-clause-next g c told = next_of c.args.self.now.size c.args.self.now.name (ring_byte c.args.self.now.size (g.H.Host.disk c.args.host.now).seen) c.args.self.now.start c.args.self.now.position c.args.self.now.number c.args.into.now (Err c.damage.result) (finds_no_room c.args.self.now.size c.args.self.now.name (ring_byte c.args.self.now.size (g.H.Host.disk c.args.host.now).seen) c.args.self.now.start c.args.self.now.position c.args.self.now.number c.read_ring.new.into (omega (arith, c.read_ring.auto.into)) (c.in-Ok.ensures.bytes told) c.if-head-ne-OPEN.false c.group_len-bytes.result c.group_len-bytes.ensures c.damage.result c.damage.ensures c.args.into.now c.if-not-has_room.ensures)
+returns-then-not-has_room-clause-next g c told = next_of c.args.self.now.size c.args.self.now.name (ring_byte c.args.self.now.size (g.H.Host.disk c.args.host.now).seen) c.args.self.now.start c.args.self.now.position c.args.self.now.number c.args.into.now (Err c.damage.result) (finds_no_room c.args.self.now.size c.args.self.now.name (ring_byte c.args.self.now.size (g.H.Host.disk c.args.host.now).seen) c.args.self.now.start c.args.self.now.position c.args.self.now.number c.read_ring.new.into (omega (arith, c.read_ring.auto.into)) (c.in-Ok.ensures.bytes told) c.if-head-ne-OPEN_GATE.false c.group_len-bytes.result c.group_len-bytes.ensures c.damage.result c.damage.ensures c.args.into.now c.if-not-has_room.ensures)
 
 pub returns-in_default-read_group-clause-calm : goal.returns-in_default-read_group-clause-calm
 returns-in_default-read_group-clause-calm g c told = agree_on (g.H.Host.disk c.args.host.now) (g.H.Host.disk c.read_ring.new.host) (g.H.Host.disk c.read_group.new.host) (c.read_ring.ensures.calm told) (c.read_group.ensures.calm told)
@@ -21,10 +21,10 @@ pub returns-then-not-is_due-clause-calm : goal.returns-then-not-is_due-clause-ca
 returns-then-not-is_due-clause-calm g c told = agree_on (g.H.Host.disk c.args.host.now) (g.H.Host.disk c.read_ring.new.host) (g.H.Host.disk c.read_group.new.host) (c.read_ring.ensures.calm told) (c.read_group.ensures.calm told)
 
 pub returns-then-not-is_due-clause-finds : goal.returns-then-not-is_due-clause-finds
-returns-then-not-is_due-clause-finds g c told = finds_other c.args.self.now.size c.args.self.now.name (ring_byte c.args.self.now.size (g.H.Host.disk c.args.host.now).seen) c.args.self.now.start c.args.self.now.position c.args.self.now.number c.read_ring.new.into (omega (arith, c.read_ring.auto.into)) (c.in-Ok.ensures.bytes told) c.if-head-ne-OPEN.false c.group_len-bytes.result c.group_len-bytes.ensures c.damage-then-not-is_due.result c.damage-then-not-is_due.ensures c.read_group.new.into c.bytes.result.now c.bytes.ensures.bytes c.in-Ok-read_group.ensures.len (stood c.args.self.now.size c.args.self.now.position (g.H.Host.disk c.args.host.now).seen (g.H.Host.disk c.read_ring.new.host).seen c.read_group.new.into (c.read_ring.ensures.seen told) (c.in-Ok-read_group.ensures.bytes told)) c.if-not-is_due.ensures
+returns-then-not-is_due-clause-finds g c told = finds_other c.args.self.now.size c.args.self.now.name (ring_byte c.args.self.now.size (g.H.Host.disk c.args.host.now).seen) c.args.self.now.start c.args.self.now.position c.args.self.now.number c.read_ring.new.into (omega (arith, c.read_ring.auto.into)) (c.in-Ok.ensures.bytes told) c.if-head-ne-OPEN_GATE.false c.group_len-bytes.result c.group_len-bytes.ensures c.damage-then-not-is_due.result c.damage-then-not-is_due.ensures c.read_group.new.into c.bytes.result.now c.bytes.ensures.bytes c.in-Ok-read_group.ensures.len (stood c.args.self.now.size c.args.self.now.position (g.H.Host.disk c.args.host.now).seen (g.H.Host.disk c.read_ring.new.host).seen c.read_group.new.into (c.read_ring.ensures.seen told) (c.in-Ok-read_group.ensures.bytes told)) c.if-not-is_due.ensures
 
 pub returns-then-not-is_due-clause-next : goal.returns-then-not-is_due-clause-next
-returns-then-not-is_due-clause-next g c told = next_of c.args.self.now.size c.args.self.now.name (ring_byte c.args.self.now.size (g.H.Host.disk c.args.host.now).seen) c.args.self.now.start c.args.self.now.position c.args.self.now.number c.read_group.new.into (Err c.damage-then-not-is_due.result) (finds_other c.args.self.now.size c.args.self.now.name (ring_byte c.args.self.now.size (g.H.Host.disk c.args.host.now).seen) c.args.self.now.start c.args.self.now.position c.args.self.now.number c.read_ring.new.into (omega (arith, c.read_ring.auto.into)) (c.in-Ok.ensures.bytes told) c.if-head-ne-OPEN.false c.group_len-bytes.result c.group_len-bytes.ensures c.damage-then-not-is_due.result c.damage-then-not-is_due.ensures c.read_group.new.into c.bytes.result.now c.bytes.ensures.bytes c.in-Ok-read_group.ensures.len (stood c.args.self.now.size c.args.self.now.position (g.H.Host.disk c.args.host.now).seen (g.H.Host.disk c.read_ring.new.host).seen c.read_group.new.into (c.read_ring.ensures.seen told) (c.in-Ok-read_group.ensures.bytes told)) c.if-not-is_due.ensures)
+returns-then-not-is_due-clause-next g c told = next_of c.args.self.now.size c.args.self.now.name (ring_byte c.args.self.now.size (g.H.Host.disk c.args.host.now).seen) c.args.self.now.start c.args.self.now.position c.args.self.now.number c.read_group.new.into (Err c.damage-then-not-is_due.result) (finds_other c.args.self.now.size c.args.self.now.name (ring_byte c.args.self.now.size (g.H.Host.disk c.args.host.now).seen) c.args.self.now.start c.args.self.now.position c.args.self.now.number c.read_ring.new.into (omega (arith, c.read_ring.auto.into)) (c.in-Ok.ensures.bytes told) c.if-head-ne-OPEN_GATE.false c.group_len-bytes.result c.group_len-bytes.ensures c.damage-then-not-is_due.result c.damage-then-not-is_due.ensures c.read_group.new.into c.bytes.result.now c.bytes.ensures.bytes c.in-Ok-read_group.ensures.len (stood c.args.self.now.size c.args.self.now.position (g.H.Host.disk c.args.host.now).seen (g.H.Host.disk c.read_ring.new.host).seen c.read_group.new.into (c.read_ring.ensures.seen told) (c.in-Ok-read_group.ensures.bytes told)) c.if-not-is_due.ensures)
 
 pub returns-clause-calm : goal.returns-clause-calm
 returns-clause-calm g c told = agree_on (g.H.Host.disk c.args.host.now) (g.H.Host.disk c.read_ring.new.host) (g.H.Host.disk c.read_group.new.host) (c.read_ring.ensures.calm told) (c.read_group.ensures.calm told)

@@ -1,0 +1,5 @@
+pub mod WordLaws
+pub mod WordWalks
+pub mod WordCases
+pub mod Counts
+pub mod MatchReads

@@ -1,0 +1,11 @@
+pub mod Speaking
+pub mod ScanTexts
+pub mod Outcomes
+pub mod Join
+pub mod Caused
+pub mod Takings
+pub mod Turns
+pub mod Progressing
+pub mod Answering
+pub mod Calls
+pub mod AfterCrash

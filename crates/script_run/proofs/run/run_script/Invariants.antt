@@ -1,0 +1,26 @@
+use Rattle.std.proofs.Common.{◌≡◌, ◌-◌, ◌≤◌, List}
+use Rattle.mdb_host.specs.Disk.{Keeps}
+use Rattle.mdb_model.specs.Worlds.{World}
+use Rattle.creation.specs.Standing.{Stands}
+use Rattle.db_kernel.specs.Kept.{AreOff, Ready, Meets}
+use Rattle.db_kernel.specs.Stretch.{Stand}
+use Rattle.db_kernel.specs.Working.{no_pages}
+use Rattle.script_run.specs.Progress.{Progress}
+use Rattle.script_run.proofs.run.run_script.Given as goal
+
+abbrev pub invariant-loop-count : goal.invariant-loop-count
+invariant-loop-count g l = record {
+  count : l.count ≤ 16777216;
+  ready : Ready l.kernel.database;
+  meets : g.H.Host.tells → Meets l.kernel.database (g.H.Host.disk l.host).seen;
+  keeps : g.H.Host.tells → Keeps (g.H.Host.disk l.fn.host) (g.H.Host.disk l.host);
+  faults : g.H.Host.faults l.fn.host ≤ g.H.Host.faults l.host;
+  say_faults : g.H.Host.say_faults l.fn.host ≤ g.H.Host.say_faults l.host;
+  script : g.S.Source.faults l.fn.source ≤ g.S.Source.faults l.source;
+  progress : g.H.Host.tells → (ws : List World) → AreOff ws → Stand no_pages Stands (g.H.Host.disk l.fn.host) ws
+      → Progress (g.H.Host.disk l.fn.host) (g.H.Host.disk l.host) (g.H.Host.faults l.fn.host) (g.H.Host.faults l.host) ws l.kernel.database l.reader
+      (g.S.Source.left l.fn.source) (g.S.Source.left l.source) l.count;
+}
+
+abbrev pub decreases-loop-count : goal.decreases-loop-count
+decreases-loop-count g l = 16777217 - l.count

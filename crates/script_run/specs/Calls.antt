@@ -1,0 +1,53 @@
+-- What the call of the program keeps.
+--     RunPromise, NewPromise      of a run of a script; of making a database
+--     EndsRun, EndsCreate      the statuses of each
+--     HasDevice      a device that a database may have is there
+--     touches_nothing      the statuses of a call that did nothing
+use Rattle.std.specs.Prelude.{◌≡◌, ℕ, ◌<◌, Bool, true, false, List, Option}
+use Rattle.mdb_model.specs.declared.status.Status.{Status}
+use Rattle.mdb_model.specs.declared.status.Status.TheVariants.{Done, Usage, Memory, DeviceFault, Exists}
+use Rattle.mdb_model.specs.Agreement.{Ages}
+use Rattle.mdb_model.specs.Headline.{CanStart, CreatePromise}
+use Rattle.mdb_model.specs.Worlds.{World}
+use Rattle.mdb_host.specs.Disk.{Disk, IsThere}
+use Rattle.creation.specs.Devices.{device_count, device_at}
+use Rattle.creation.specs.Standing.{Stands}
+use Rattle.db_kernel.specs.Working.{no_pages}
+use Rattle.script_run.specs.Along.{Kept}
+
+-- of each start, by what a crash at the entry may leave: the promise of a call. Of the source are
+-- given the bytes that it tells before and after, where it tells them
+abbrev pub RunPromise : (old new : Disk) → (faults_before faults : ℕ) → Status
+    → (left_before left : Option (List ℕ)) → Type 0
+RunPromise old new faults_before faults status left_before left =
+    (from : List (World × Ages)) → CanStart no_pages old.said old.may_leave Stands old.now from
+    → Kept no_pages Stands old new faults_before faults from status left_before left
+
+-- of a database of this birth, with volumes of so many pages
+abbrev pub NewPromise : (old new : Disk) → Status → (birth log_pages : ℕ) → (data_pages : List ℕ)
+    → Type 0
+NewPromise old new status birth log_pages data_pages =
+    CreatePromise no_pages new.said new.may_leave Stands status old.now new.now birth log_pages
+    data_pages
+
+abbrev pub EndsRun : Status → Type 0
+EndsRun Usage = ⊥
+EndsRun DeviceFault = ⊥
+EndsRun Exists = ⊥
+EndsRun _ = Unit {0}
+
+abbrev pub EndsCreate : Status → Type 0
+EndsCreate Done = Unit {0}
+EndsCreate Memory = Unit {0}
+EndsCreate DeviceFault = Unit {0}
+EndsCreate Exists = Unit {0}
+EndsCreate _ = ⊥
+
+abbrev pub HasDevice : Disk → Type 0
+HasDevice disk = (number : ℕ) × (number < device_count) × IsThere disk.seen (device_at number)
+
+abbrev pub touches_nothing : Status → Bool
+touches_nothing Usage = true
+touches_nothing Memory = true
+touches_nothing Exists = true
+touches_nothing _ = false

@@ -1,0 +1,5 @@
+pub mod Along
+pub mod Progress
+pub mod Speaking
+pub mod Calls
+pub mod Again

@@ -1,0 +1,204 @@
+//! The run of a script, line by line.
+ghost use Rattle.std.specs.Prelude.{◌≡◌, ℕ, ◌≤◌, ◌<◌, List, Bool, length, IfOk, IsTrue, Some, false};
+ghost use Rattle.mdb_model.specs.Answers.{refused};
+ghost use Rattle.mdb_model.specs.Causes.{Rose, HasCause};
+ghost use Rattle.mdb_model.specs.declared.script.Command.{Command};
+ghost use Rattle.mdb_model.specs.Runs.{Line};
+ghost use Rattle.mdb_model.specs.Script.{is_in_range};
+ghost use Rattle.mdb_model.specs.Worlds.{World};
+ghost use Rattle.mdb_host.specs.Disk.{Disk, Keeps};
+ghost use Rattle.creation.specs.Standing.{Stands};
+ghost use Rattle.db_kernel.specs.Kept.{Ready, Meets, Fits};
+ghost use Rattle.db_kernel.specs.Stretch.{Stand, Completes};
+ghost use Rattle.db_kernel.specs.Working.{no_pages};
+ghost use Rattle.script_run.specs.Calls.{EndsRun, RunPromise};
+ghost use Rattle.script_run.specs.Progress.{DoesLine, Turned, IsLineText, is_end as no_line, weight_in};
+
+use crate::saying::{say_reply, say_scan};
+use db_kernel::kernel::Kernel;
+use dbm_script::{LineFault, parse_line};
+use mdb_host::{Failed, Host, Source};
+use mdb_model::limits::MOST_LINES;
+use mdb_model::script::{Command, Refusal, Reply};
+use mdb_model::status::Status;
+use script_lines::{LineKind, LineReader};
+use std::alloc::Global;
+// Says all that answers a command.
+fn answer_command<H: Host>(
+    kernel: &mut Kernel,
+    host: &mut H,
+    command: &Command,
+) -> Result<(), Failed>
+    requires range { IsTrue (is_in_range command.now) }
+    requires ready { Ready kernel.old.database }
+    requires meets { H.tells → Meets kernel.old.database (H.disk host.old).seen }
+    ensures ready { Ready kernel.new.database }
+    ensures meets { H.tells → Meets kernel.new.database (H.disk host.new).seen }
+    ensures keeps { H.tells → Keeps (H.disk host.old) (H.disk host.new) }
+    ensures does { H.tells → (ws : List World) → Fits kernel.old.database ws
+        → Stand no_pages Stands (H.disk host.old) ws
+        → DoesLine (H.disk host.old) (H.disk host.new) (H.faults host.old) (H.faults host.new) ws
+        (Some command.now) kernel.new.database result }
+    ensures later { H.faults host.old ≤ H.faults host.new }
+    ensures say_cause { HasCause (H.say_faults host.old) (H.say_faults host.new) result }
+{
+    let reply = kernel.command(host, command);
+    match command {
+        Command::ScanTable(session, table) => match &reply {
+            Reply::ScanOpen => say_scan(kernel, host, *session, *table),
+            _ => say_reply(host, &reply),
+        },
+        _ => say_reply(host, &reply),
+    }
+}
+
+// Says the reply to a line that the kernel does not take.
+fn refuse<H: Host>(kernel: &Kernel, host: &mut H, refusal: Refusal) -> Result<(), Failed>
+    requires meets { H.tells → Meets kernel.now.database (H.disk host.old).seen }
+    requires cause { refusal ≡ Refusal.DeviceFailed → ⊥ }
+    requires end { refusal ≡ Refusal.NumberEnd → ⊥ }
+    ensures meets { H.tells → Meets kernel.now.database (H.disk host.new).seen }
+    ensures keeps { H.tells → Keeps (H.disk host.old) (H.disk host.new) }
+    ensures does { H.tells → (ws : List World) (line : Line)
+        → Completes no_pages Stands (H.disk host.old) (H.disk host.old) ws line (refused refusal)
+        (Fits kernel.now.database)
+        → DoesLine (H.disk host.old) (H.disk host.new) (H.faults host.old) (H.faults host.new) ws
+        line kernel.now.database result }
+    ensures faults { H.faults host.new ≡ H.faults host.old }
+    ensures say_cause { HasCause (H.say_faults host.old) (H.say_faults host.new) result }
+{
+    say_reply(host, &Reply::Refused(refusal))
+}
+
+// Takes a line and says what answers it; false where it is skipped.
+fn take_line<H: Host>(
+    alloc: Global,
+    kernel: &mut Kernel,
+    host: &mut H,
+    line: &[u8],
+) -> Result<bool, Failed>
+    requires ready { Ready kernel.old.database }
+    requires meets { H.tells → Meets kernel.old.database (H.disk host.old).seen }
+    ensures ready { Ready kernel.new.database }
+    ensures meets { H.tells → Meets kernel.new.database (H.disk host.new).seen }
+    ensures keeps { H.tells → Keeps (H.disk host.old) (H.disk host.new) }
+    ensures still { IfOk result (λ answered. answered ≡ false
+        → (host.new ≡ host.old) × (kernel.new ≡ kernel.old)) }
+    ensures turned { H.tells → (ws : List World) → Fits kernel.old.database ws
+        → Stand no_pages Stands (H.disk host.old) ws
+        → Turned (H.disk host.old) (H.disk host.new) (H.faults host.old) (H.faults host.new) ws
+        (λ text. text ≡ line.now) kernel.new.database result }
+    ensures later { H.faults host.old ≤ H.faults host.new }
+    ensures say_cause { HasCause (H.say_faults host.old) (H.say_faults host.new) result }
+{
+    match parse_line(alloc, line) {
+        Ok(None) => return Ok(false),
+        Ok(Some(command)) => answer_command(kernel, host, &command)?,
+        Err(LineFault::Syntax) => refuse(kernel, host, Refusal::Syntax)?,
+        Err(LineFault::Memory) => refuse(kernel, host, Refusal::MemoryWanting)?,
+    }
+    Ok(true)
+}
+
+// Says the reply to a line that is too long.
+fn refuse_line<H: Host>(kernel: &Kernel, host: &mut H) -> Result<bool, Failed>
+    requires meets { H.tells → Meets kernel.now.database (H.disk host.old).seen }
+    ensures meets { H.tells → Meets kernel.now.database (H.disk host.new).seen }
+    ensures keeps { H.tells → Keeps (H.disk host.old) (H.disk host.new) }
+    ensures answered { IfOk result (λ answered. answered ≡ false → ⊥) }
+    ensures turned { H.tells → (ws : List World) → Fits kernel.now.database ws
+        → Stand no_pages Stands (H.disk host.old) ws
+        → Turned (H.disk host.old) (H.disk host.new) (H.faults host.old) (H.faults host.new) ws
+        (λ text. 8192 < length text) kernel.now.database result }
+    ensures faults { H.faults host.new ≡ H.faults host.old }
+    ensures say_cause { HasCause (H.say_faults host.old) (H.say_faults host.new) result }
+{
+    refuse(kernel, host, Refusal::Syntax)?;
+    Ok(true)
+}
+
+// Answers a line that the reader found; false where it is skipped.
+fn answer<H: Host>(
+    alloc: Global,
+    kernel: &mut Kernel,
+    host: &mut H,
+    kind: LineKind,
+    found: &[u8],
+) -> Result<bool, Failed>
+    requires ready { Ready kernel.old.database }
+    requires meets { H.tells → Meets kernel.old.database (H.disk host.old).seen }
+    ensures ready { Ready kernel.new.database }
+    ensures meets { H.tells → Meets kernel.new.database (H.disk host.new).seen }
+    ensures keeps { H.tells → Keeps (H.disk host.old) (H.disk host.new) }
+    ensures still { IfOk result (λ answered. answered ≡ false
+        → (host.new ≡ host.old) × (kernel.new ≡ kernel.old)) }
+    ensures turned { H.tells → (ws : List World) → Fits kernel.old.database ws
+        → Stand no_pages Stands (H.disk host.old) ws
+        → Turned (H.disk host.old) (H.disk host.new) (H.faults host.old) (H.faults host.new) ws
+        (IsLineText kind found.now) kernel.new.database result }
+    ensures later { H.faults host.old ≤ H.faults host.new }
+    ensures say_cause { HasCause (H.say_faults host.old) (H.say_faults host.new) result }
+{
+    match kind {
+        LineKind::Text => take_line(alloc, kernel, host, found),
+        LineKind::TooLong(_) => refuse_line(kernel, host),
+        LineKind::End => Ok(false),
+    }
+}
+
+// Whether no line is left.
+fn is_end(kind: LineKind) -> bool
+    ensures { result ≡ no_line kind }
+{
+    match kind {
+        LineKind::End => true,
+        LineKind::Text | LineKind::TooLong(_) => false,
+    }
+}
+
+// How many lines a line counts as. One that counts as more than a script may have ends the script,
+// however long it is.
+fn weight(kind: LineKind) -> u64
+    ensures { result ≡ weight_in kind }
+{
+    match kind {
+        LineKind::TooLong(lines) => lines.max(1).min(MOST_LINES + 1),
+        LineKind::Text | LineKind::End => 1,
+    }
+}
+
+/// Runs the script of a source on the database of a host, from a kernel that is off. Each reply is
+/// said before the next line is read.
+pub fn run_script<H: Host, S: Source>(alloc: Global, host: &mut H, source: &mut S) -> Status
+    ensures keeps { H.tells → Keeps (H.disk host.old) (H.disk host.new) }
+    ensures promise { H.tells → RunPromise (H.disk host.old) (H.disk host.new) (H.faults host.old)
+        (H.faults host.new) result (S.left source.old) (S.left source.new) }
+    ensures ends { EndsRun result }
+    ensures untouched { result ≡ Status.Memory → (host.new ≡ host.old) × (source.new ≡ source.old) }
+    ensures script_cause { result ≡ Status.ScriptFault
+        → Rose (S.faults source.old) (S.faults source.new) }
+    ensures say_cause { result ≡ Status.SayFault
+        → Rose (H.say_faults host.old) (H.say_faults host.new) }
+{
+    let Ok(mut reader) = LineReader::new(alloc) else {
+        return Status::Memory;
+    };
+    let mut kernel = Kernel::new(alloc);
+    let mut count = 0;
+    while count <= MOST_LINES {
+        let Ok(kind) = reader.advance(source) else {
+            return Status::ScriptFault;
+        };
+        if is_end(kind) {
+            return Status::Done;
+        }
+        count += weight(kind);
+        if MOST_LINES < count {
+            return Status::LinesEnd;
+        }
+        let Ok(_) = answer(alloc, &mut kernel, host, kind, reader.text()) else {
+            return Status::SayFault;
+        };
+    }
+    Status::LinesEnd
+}
