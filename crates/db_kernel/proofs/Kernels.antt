@@ -3,7 +3,7 @@
 --     kernel_online      a line of a session
 --     kernel_killed, kernel_closed, kernel_told      the lines of every state
 --     admin_again, online_again, dismissed, admitted      from one state to the other
-use Rattle.std.proofs.Common.{◌≡◌, refl, sym, subst, ap, ◌∙◌, ℕ, ◌+◌, ◌-◌, Bool, true, false, is_some, List, ◌∷◌, [], length, Option, Some, None, Result, Ok, Err, All, min, arith}
+use Rattle.std.proofs.Common.{◌≡◌, refl, sym, subst, ap, ◌∙◌, ℕ, ◌+◌, ◌-◌, true, false, is_some, List, ◌∷◌, [], length, Option, Some, None, Result, Ok, Err, All, min, arith}
 use Rattle.std.specs.List.{list_any}
 use Rattle.std.specs.FinMap.{empty}
 use Rattle.std.proofs.lemmas.List.Elements.{All-cons, All-nil}

@@ -3,8 +3,8 @@
 --     records_whole      nothing in front of the log is damaged
 --     first_whole, ring_found, ring_refused      the log is whole
 --     ring_refuses, redo_refuses      what the log is called is so
-use Rattle.std.proofs.Common.{◌≡◌, ◌≢◌, ◌⊎◌, inl, inr, refl, sym, ap, subst, ◌∙◌, ℕ, zero, suc, ◌+◌, ◌-◌, ◌*◌, ◌/◌, ◌^◌, ◌<◌, ◌≤◌, Bool, true, false, ◌||◌, cond, List, [], ◌∷◌, length, get_or, sum, take, drop, ◌++◌, Option, Some, None, Result, Ok, Err, arith}
-use Rattle.std.specs.Prelude.{IsTrue, nat_le}
+use Rattle.std.proofs.Common.{◌≡◌, inl, inr, refl, sym, ap, subst, ◌∙◌, ℕ, ◌+◌, ◌*◌, ◌^◌, ◌<◌, Bool, true, false, ◌||◌, List, length, get_or, sum, Option, Some, None, Ok, Err, arith}
+use Rattle.std.specs.Prelude.{nat_le}
 use Rattle.std.proofs.lemmas.Bool.{lt-leb}
 use Rattle.creation.proofs.Sums.{item_less, part_less}
 use Rattle.mdb_model.specs.declared.change.Commit.{Commit}
@@ -15,7 +15,7 @@ use Rattle.mdb_model.specs.declared.fault.OpenFault.{OpenFault}
 use Rattle.mdb_model.specs.declared.fault.OpenFault.TheVariants.{Memory, Failed, Damaged as OpenDamaged}
 use Rattle.mdb_model.specs.declared.name.Name.{Name}
 use Rattle.mdb_model.specs.declared.script.Refusal.{Refusal}
-use Rattle.mdb_model.specs.declared.script.Refusal.TheVariants.{DeviceFailed, MemoryWanting, Damaged, RestoreOpen as ToldRestoreOpen, NumberEnd}
+use Rattle.mdb_model.specs.declared.script.Refusal.TheVariants.{DeviceFailed, Damaged, RestoreOpen as ToldRestoreOpen, NumberEnd}
 use Rattle.mdb_model.specs.Images.{Image, size_of}
 use Rattle.mdb_model.specs.Worlds.{World}
 use Rattle.mdb_host.specs.Disk.{Agree, pages_of}
@@ -23,7 +23,7 @@ use Rattle.mdb_host.proofs.Moments.{same_image}
 use Rattle.mdb_bytes.specs.declared.log_info.LogInfo.{LogInfo}
 use Rattle.mdb_bytes.specs.declared.restart_record.RestartRecord.{RestartRecord}
 use Rattle.mdb_bytes.specs.Firsts.{first_name, first_restart, first_log_info}
-use Rattle.mdb_bytes.specs.LogReading.{IsLog, log_bytes}
+use Rattle.mdb_bytes.specs.LogReading.{IsLog}
 use Rattle.mdb_bytes.specs.Rings.{ring_byte}
 use Rattle.gate_slots.specs.declared.body.SlotBody.{SlotBody}
 use Rattle.gate_slots.specs.declared.body.SlotBody.TheVariants.{Restart, Log as LogBody}
@@ -31,11 +31,11 @@ use Rattle.redo_ring.specs.declared.open.LogStart.{LogStart}
 use Rattle.redo_ring.specs.declared.ring.Ring.{Ring}
 use Rattle.redo_ring.specs.Opening.{ring_size, IsOpened, IsWhole, OpenEnds, OpenFinds}
 use Rattle.db_kernel.specs.declared.opening.Found.{Found}
-use Rattle.db_kernel.specs.Damages.{HasRestart, HasLogInfo, start_of, IsNeeded, IsMissing, IsLogOutOfSize, IsFirstOutOfSize, IsVolumeOutOfSize, HasNoSlot, IsDamagedInFront, RefusesInFront, Refuses, is_past_end}
-use Rattle.db_kernel.specs.Kept.{IsRingOf, RingIs, OpenedIs, as_refusal}
+use Rattle.db_kernel.specs.Damages.{HasRestart, HasLogInfo, start_of, IsMissing, IsLogOutOfSize, IsFirstOutOfSize, IsVolumeOutOfSize, HasNoSlot, IsDamagedInFront, RefusesInFront, Refuses, is_past_end}
+use Rattle.db_kernel.specs.Kept.{IsRingOf, OpenedIs, as_refusal}
 use Rattle.db_kernel.specs.Reading.{IsFound}
 use Rattle.db_kernel.specs.Redo.{Redone}
-use Rattle.creation.specs.Standing.{Made, Site, IsSite, HasRecords, Stands, ring_of, made_at}
+use Rattle.creation.specs.Standing.{Made, Site, HasRecords, Stands, made_at}
 
 -- The records in force
 

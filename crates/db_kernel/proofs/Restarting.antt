@@ -1,7 +1,7 @@
 -- A restart, for the administrator or for the sessions.
 --     devices_agree      images of synced devices agree with what a read gives
 --     opening_starved, opening_failed, opening_refused, opening_done      how it ends
-use Rattle.std.proofs.Common.{◌≡◌, refl, sym, subst, ap, ◌∙◌, ℕ, ◌+◌, ◌-◌, ◌*◌, ◌<◌, ◌≤◌, ◌==◌, Bool, cond, min, true, false, lt-ltb, le-ltb, ne_eqb, List, [], ◌∷◌, length, Option, Some, None, Contains, Err, arith}
+use Rattle.std.proofs.Common.{◌≡◌, refl, sym, subst, ap, ◌∙◌, ℕ, ◌+◌, ◌-◌, ◌<◌, ◌≤◌, ◌==◌, Bool, lt-ltb, le-ltb, ne_eqb, List, [], ◌∷◌, length, Some, Contains, Err, arith}
 use Rattle.std.specs.Prelude.{if◌then◌else◌}
 use Rattle.std.specs.FinMap.{empty, get-empty}
 use Rattle.std.proofs.lemmas.List.Elements.{All-contains}
@@ -24,7 +24,7 @@ use Rattle.db_kernel.specs.declared.database.Access.TheVariants.{Admin, Online}
 use Rattle.db_kernel.specs.declared.database.Database.{Database}
 use Rattle.db_kernel.specs.Access.{opens, opened_reply}
 use Rattle.creation.specs.Devices.{device_count, device_at, SyncedUpTo}
-use Rattle.db_kernel.specs.Kept.{AreOff, FitsOpen, IsIn, IsAt, IsAtRest, IsOf, OpenedIs, made_of}
+use Rattle.db_kernel.specs.Kept.{AreOff, FitsOpen, IsIn, IsOf, OpenedIs, made_of}
 use Rattle.db_kernel.specs.Sessions.{HasKeys}
 use Rattle.creation.specs.Standing.{Made, Stands, at_rest, made_at, ring_of}
 use Rattle.db_kernel.specs.Stretch.{Stand, Completes}

@@ -2,20 +2,23 @@
 --     visible_net      the rows after changes of which there is one of each key
 --     Passed, passed_none      how far a scan has come, and that it begins so
 --     take_row, take_put, pass, take_rest      what it finds next: a committed row, a change, nothing yet, and what is left
-use Rattle.std.proofs.Common.{◌≡◌, refl, sym, ap, ◌∙◌, subst, ℕ, ◌+◌, ◌-◌, ◌<◌, ◌≤◌, ◌≢◌, Bool, true, false, cond, ◌&&◌, T, List, [], ◌∷◌, map, length, get_or, take, drop, length-take, length-drop, get_or-take, get_or-drop, Option, Some, None, unwrap_or, option_map, IsTrue, arith}
+--     left_item, place_here, left_none      the first of the changes that are left, its place, and that none is left
+--     Comes, comes_first      how far a scan has come, with the changes that are left, and that it begins so
+use Rattle.std.proofs.Common.{◌≡◌, refl, sym, ap, ◌∙◌, subst, ℕ, zero, suc, ◌+◌, ◌<◌, ◌≤◌, ◌≢◌, Bool, true, false, cond, ◌&&◌, T, List, [], ◌∷◌, map, length, get_or, drop, length-drop, Option, Some, None, unwrap_or, option_map, IsTrue, arith}
 use Rattle.std.specs.declared.cmp.Ordering.{Ordering}
 use Rattle.std.specs.declared.cmp.Ordering.TheVariants.{Less, Equal, Greater}
 use Rattle.std.specs.Ordering.{nat_cmp, is_lt, is_eq, eq_by_cmp, ordering_reverse}
 use Rattle.std.specs.Cmp.Lexicographic.{nat_list_cmp_total, slice_cmp}
 use Rattle.std.specs.FinMap.{find, get, is_sorted, get-insert, get-remove, nat_cmp-IsAntisymmetric, slice_cmp-IsAntisymmetric}
 use Rattle.std.specs.FinMap.Entries.{below_all}
+use Rattle.std.proofs.lemmas.List.{length-map}
 use Rattle.mdb_model.specs.declared.change.Change.{Change}
 use Rattle.mdb_model.specs.declared.change.Change.TheVariants.{Put, Del}
 use Rattle.mdb_model.specs.Tables.{Place, Tables, place_cmp, place_of, with_change, with_changes}
 use Rattle.mdb_bytes.specs.Fields.{rises}
 use Rattle.mdb_bytes.specs.Held.{next_row, is_before}
 use Rattle.mdb_bytes.proofs.NextRow.{is_next, is_last, next_is, none_is, before-is, before-less, find-below}
-use Rattle.sorted_places.specs.Search.{IsAt, IsGap}
+use Rattle.sorted_places.specs.Search.{IsAt, IsGap, IsPast}
 use Rattle.sorted_places.proofs.Places.{place_total, place_exact}
 use Rattle.sorted_places.proofs.Sorted.{sorted_from_rises, turned, find-at, find-gap}
 use Rattle.transactions.specs.Net.{placed, seen_row}
@@ -218,26 +221,54 @@ module _ (cs : List Change) (ascends : IsTrue (rises place_cmp (map place_of cs)
               ap (λ k. get seen (table, k)) (slice_cmp-IsAntisymmetric nat_cmp-IsAntisymmetric other key is) ∙ at-key ∙ ap (option_map (λ r. r.1)) deletion
           by_order other later upto Greater is = let both : false ≡ true = sym upto ∙ ap is_lt (nat_list_cmp_total.antisymm key other ∙ ap ordering_reverse is) in cc
 
--- The changes from an index on
+-- The changes that are left
 
-module _ (cs : List Change) (at i : ℕ) (within : at ≤ length cs) (before_end : i < length (take (length cs - at) (drop at cs))) where
-  left : i < length cs - at
-  left =
-      let taken = length-take (length cs - at) (drop at cs) in
-      omega (arith, before_end, taken)
+-- the first of what is left stands at the index
+pub left_item : (cs : List Change) (at : ℕ) (e : Place × Change) (rest : List (Place × Change))
+    → drop at (map placed cs) ≡ e ∷ rest
+    → (at < length cs) × (get_or cs at e.1 ≡ e.1) × (rest ≡ drop (at + 1) (map placed cs))
+left_item [] zero e rest is = cc
+left_item [] (suc at) e rest is = cc
+left_item (c ∷ cs) zero e rest is = (
+  omega arith,
+  ap (λ (es : List (Place × Change)).
+      (get_or es 0 e).1) is,
+  sym (ap (drop 1) is),
+)
+left_item (c ∷ cs) (suc at) e rest is =
+    let further = left_item cs at e rest is in
+    let next : suc (at + 1) ≡ suc at + 1 = omega arith in
+    (omega (arith, further.0), further.1, further.2 ∙ ap (λ n. drop n (map placed (c ∷ cs))) next)
 
-  pub rest_inside : at + i < length cs
-  rest_inside = omega (arith, left, within)
+-- the place of a change, by its table and its key
+pub place_here : (change item : Change) → change ≡ item → (table : ℕ) (key : List ℕ)
+    → (place_of item).0 ≡ table → (place_of item).1 ≡ key
+    → ◌≡◌ {A = Place} (place_of change) (table, key)
+place_here change item is table key same_table same_key = ap place_of is
+    ∙ (λ k. (same_table k, same_key k))
 
-  pub rest_item : (item : Change) → item ≡ get_or (take (length cs - at) (drop at cs)) i item → get_or cs (at + i) item ≡ item
-  rest_item item is = sym (is ∙ get_or-take (length cs - at) (drop at cs) i item left ∙ get_or-drop at cs i item)
+-- nothing is left past the last change
+pub left_none : (cs : List Change) (at : ℕ) → drop at (map placed cs) ≡ [] → length cs ≤ at
+left_none cs at is =
+    let dropped = length-drop at (map placed cs) in
+    let long = length-map cs placed in
+    let none = ap length is in
+    omega (arith, dropped, long, none)
 
-  pub rest_place : (item : Change) → item ≡ get_or (take (length cs - at) (drop at cs)) i item → (table : ℕ) (key : List ℕ) → (place_of item).0 ≡ table → (place_of item).1 ≡ key
-      → ◌≡◌ {A = Place} (place_of (get_or cs (at + i) item)) (table, key)
-  rest_place item is table key same_table same_key = ap place_of (rest_item item is) ∙ (λ k. (same_table k, same_key k))
+-- a scan has come to a key, and these are the changes behind it
+pub record Comes (cs : List Change) (tables : Tables) (table : ℕ) (after passed : List ℕ)
+    (left : List (Place × Change)) : Type 0 where
+  pub at : ℕ
+  pub come : Passed cs tables table after passed at
+  pub behind : left ≡ drop at (map placed cs)
 
-pub rest_end : (cs : List Change) (at i : ℕ) → length (take (length cs - at) (drop at cs)) ≤ i → length cs ≤ at + i
-rest_end cs at i past =
-    let taken = length-take (length cs - at) (drop at cs) in
-    let dropped = length-drop at cs in
-    omega (arith, past, taken, dropped)
+pub comes_first : (cs : List Change) (tables : Tables) (table : ℕ) (after : List ℕ) (left : List
+    (Place × Change))
+    → (at : ℕ) × IsPast place_of cs table after at × (left ≡ drop at (map placed cs))
+    → Comes cs tables table after after left
+comes_first cs tables table after left rest = record {
+  at = rest.0;
+  come = passed_none cs tables table after rest.0
+      (record { in_range = rest.1.in_range; upto_before = rest.1.lower; greater_after = rest.1.higher });
+  behind = rest.2;
+}

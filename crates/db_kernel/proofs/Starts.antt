@@ -1,7 +1,7 @@
 -- A database at rest, without media, is sound, and agrees with the history that it has itself.
 --     is_sound, agrees      the two
 --     starts      so a call may start where each image stands for one
-use Rattle.std.proofs.Common.{◌≡◌, refl, sym, ap, subst, ◌∙◌, ℕ, zero, suc, ◌<◌, ◌≤◌, Bool, true, false, cond, List, [], ◌∷◌, length, map, Option, Some, None, arith}
+use Rattle.std.proofs.Common.{◌≡◌, refl, sym, ap, subst, ◌∙◌, ℕ, zero, suc, Bool, true, false, cond, List, [], ◌∷◌, length, map, Option, Some, None, arith}
 use Rattle.std.specs.Prelude.{All, Contains, filter_map, unwrap_or}
 use Rattle.std.specs.Ordering.{nat_cmp, eq_by_cmp, ordering_then, is_eq}
 use Rattle.std.specs.declared.cmp.Ordering.{Ordering}
@@ -12,13 +12,12 @@ use Rattle.std.specs.FinMap.{get, insert, empty, get-empty, get-insert}
 use Rattle.mdb_model.specs.declared.change.Commit.{Commit}
 use Rattle.mdb_model.specs.declared.name.Name.{Name}
 use Rattle.mdb_model.specs.declared.name.State.TheVariants.{Offline}
-use Rattle.mdb_model.specs.declared.script.Command.{Command}
 use Rattle.mdb_model.specs.Agreement.{IsSound, Ages, Agrees, IsPageChain, name_cmp}
 use Rattle.mdb_model.specs.Headline.{CanStart}
 use Rattle.mdb_model.specs.Images.{Image}
 use Rattle.mdb_model.specs.Backups.{Backup, Medium}
 use Rattle.mdb_model.specs.History.{History}
-use Rattle.mdb_model.specs.Pages.{PageMap, PageReading}
+use Rattle.mdb_model.specs.Pages.{PageReading}
 use Rattle.mdb_model.specs.Steps.{backups_of}
 use Rattle.mdb_model.specs.Worlds.{World, Lock, Transaction, transaction, no_transaction}
 use Rattle.mdb_model.proofs.Computing.{entries-empty}

@@ -1,6 +1,6 @@
 -- What is wrong with a data volume.
 --     other_size, too_small, too_many, too_few      what its record is refused for
-use Rattle.std.proofs.Common.{◌≡◌, ◌≢◌, inl, inr, refl, sym, ap, ◌∙◌, ℕ, zero, suc, ◌+◌, ◌-◌, ◌<◌, ◌≤◌, List, [], ◌∷◌, length, get_or, sum, take, Option, Some, arith}
+use Rattle.std.proofs.Common.{◌≡◌, inl, inr, refl, ap, ◌∙◌, ℕ, ◌+◌, ◌-◌, ◌<◌, ◌≤◌, length, get_or, sum, take, Some, arith}
 use Rattle.creation.proofs.Sums.{sum_more}
 use Rattle.mdb_model.specs.declared.fault.Device.TheVariants.{Data}
 use Rattle.mdb_model.specs.declared.fault.Rule.TheVariants.{Size}

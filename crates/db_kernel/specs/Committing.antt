@@ -14,6 +14,9 @@ use Rattle.db_kernel.specs.Kept.{AreOff}
 use Rattle.db_kernel.specs.Stretch.{Completes}
 use Rattle.db_kernel.specs.Working.{no_pages}
 
-abbrev pub CommitDoes : (old new : Disk) → List World → Session → (fits : List World → Type 0) → Result Reply Failed → Type 0
-CommitDoes old new ws session fits (Ok reply) = Completes no_pages Stands old new ws (Some (CommitWork session)) (plain reply) fits
-CommitDoes old new ws session fits (Err failed) = Completes no_pages Stands old new ws (Some (CommitWork session)) (refused DeviceFailed) AreOff
+abbrev pub CommitDoes : (old new : Disk) → List World → Session → (fits : List World → Type 0)
+    → Result Reply Failed → Type 0
+CommitDoes old new ws session fits (Ok reply) =
+    Completes no_pages Stands old new ws (Some (CommitWork session)) (plain reply) fits
+CommitDoes old new ws session fits (Err failed) =
+    Completes no_pages Stands old new ws (Some (CommitWork session)) (refused DeviceFailed) AreOff

@@ -2,11 +2,14 @@
 --     whole_damage      a device breaks a rule as a whole
 --     start_of      where the log begins, by the records in force
 --     IsDamaged      the bytes of an image break this rule
---     IsRestoring, IsPastEnd      the record says that a restore is open; a number is past the end of all numbers
+--     IsRestoring, IsPastEnd      the record says that a restore is open; a number is past the end
+--         of all numbers
 --     past_end_in, IsInReach      the same as a test of a line and an image; neither is so
---     RefusesInFront, Refuses      the image has what reading its records, and an opening, is refused for
---     TellsDamage, IsInside      a refusal that tells of the devices has it; a reply that tells nothing of the outside
-use Rattle.std.specs.Prelude.{◌≡◌, ◌≢◌, ◌⊎◌, ℕ, ◌+◌, ◌^◌, ◌<◌, ◌≤◌, nat_lt, nat_le, if◌then◌else◌, List, [], ◌∷◌, length, get_or, sum, take, Bool, false, ◌||◌, IsTrue, Option, Some, None, Err}
+--     RefusesInFront, Refuses      the image has what reading its records, and an opening, is
+--         refused for
+--     TellsDamage, IsInside      a refusal that tells of the devices has it; a reply that tells
+--         nothing of the outside
+use Rattle.std.specs.Prelude.{◌≡◌, ◌≢◌, ◌⊎◌, ℕ, ◌+◌, ◌^◌, ◌<◌, nat_lt, nat_le, if◌then◌else◌, List, [], ◌∷◌, length, get_or, sum, take, Bool, false, ◌||◌, IsTrue, Option, Some, None, Err}
 use Rattle.std.specs.List.{list_any}
 use Rattle.mdb_model.specs.declared.fault.Damage.{Damage}
 use Rattle.mdb_model.specs.declared.fault.Device.{Device}
@@ -45,7 +48,8 @@ HasRestart image restart = in_force image data_slots ≡ Some (Restart restart)
 abbrev pub HasLogInfo : Image → LogInfo → Type 0
 HasLogInfo image info = in_force image log_slots ≡ Some (LogBody info)
 
--- a log info of an earlier generation than the record tells nothing: all up to the record is saved then
+-- a log info of an earlier generation than the record tells nothing: all up to the record is saved
+-- then
 abbrev pub is_earlier : RestartRecord → LogInfo → Bool
 is_earlier restart info = nat_lt info.name.generation restart.name.generation
 
@@ -66,24 +70,30 @@ start_of restart info = record {
 abbrev pub IsNeeded : Image → Device → Type 0
 IsNeeded image device =
     (device ≡ Log) ⊎ ((device ≡ Data 1)
-    ⊎ ((restart : RestartRecord) × HasRestart image restart × ((i : ℕ) × (i < length restart.volumes.items) × (device ≡ Data (i + 1)))))
+    ⊎ ((restart : RestartRecord) × HasRestart image restart
+    × ((i : ℕ) × (i < length restart.volumes.items) × (device ≡ Data (i + 1)))))
 
 -- a device that is needed is absent
 abbrev pub IsMissing : Image → Damage → Type 0
-IsMissing image damage = (device : Device) × IsNeeded image device × (image device ≡ None) × (damage ≡ whole_damage device Missing)
+IsMissing image damage =
+    (device : Device) × IsNeeded image device × (image device ≡ None)
+    × (damage ≡ whole_damage device Missing)
 
 -- the log volume has too few or too many pages, or others than the log info says
 abbrev pub IsLogOutOfSize : Image → Damage → Type 0
 IsLogOutOfSize image damage =
     (pages : ℕ) × (pages_of (image Log) ≡ Some pages) × (damage ≡ whole_damage Log Size)
-    × ((pages < 4) ⊎ ((65536 < pages) ⊎ ((info : LogInfo) × HasLogInfo image info × (info.pages ≢ pages))))
+    × ((pages < 4) ⊎ ((65536 < pages) ⊎ ((info : LogInfo) × HasLogInfo image info
+    × (info.pages ≢ pages))))
 
 -- the first data volume has too few or too many
 abbrev pub IsFirstOutOfSize : Image → Damage → Type 0
 IsFirstOutOfSize image damage =
-    (pages : ℕ) × (pages_of (image (Data 1)) ≡ Some pages) × (damage ≡ whole_damage (Data 1) Size) × ((pages < 64) ⊎ (65536 < pages))
+    (pages : ℕ) × (pages_of (image (Data 1)) ≡ Some pages) × (damage ≡ whole_damage (Data 1) Size)
+    × ((pages < 64) ⊎ (65536 < pages))
 
--- a data volume has other pages than the record says, or those in the record break the limits of a data area with it
+-- a data volume has other pages than the record says, or those in the record break the limits of a
+-- data area with it
 pub record IsVolumeOutOfSize (image : Image) (damage : Damage) : Type 0 where
   pub restart : RestartRecord
   pub in_force : HasRestart image restart
@@ -98,18 +108,23 @@ pub record IsVolumeOutOfSize (image : Image) (damage : Damage) : Type 0 where
 -- neither slot counts
 abbrev pub HasNoSlot : Image → Damage → Type 0
 HasNoSlot image damage =
-    ((in_force image data_slots ≡ None) × (damage ≡ whole_damage (Data 1) NoSlot)) ⊎ ((in_force image log_slots ≡ None) × (damage ≡ whole_damage Log NoSlot))
+    ((in_force image data_slots ≡ None) × (damage ≡ whole_damage (Data 1) NoSlot))
+    ⊎ ((in_force image log_slots ≡ None) × (damage ≡ whole_damage Log NoSlot))
 
--- an open gate stands before bytes that are not the group that is due, or both ways to the end of the log part
+-- an open gate stands before bytes that are not the group that is due, or both ways to the end of
+-- the log part
 abbrev pub HasBrokenLog : Image → Damage → Type 0
 HasBrokenLog image damage =
     (restart : RestartRecord) × HasRestart image restart × ((info : LogInfo) × HasLogInfo image info
-    × OpenFinds (start_of restart info) (ring_byte (ring_size info.pages) image) (Err (Damaged damage)))
+    × OpenFinds (start_of restart info) (ring_byte (ring_size info.pages) image)
+    (Err (Damaged damage)))
 
 -- damage that shows before the log is read
 abbrev pub IsDamagedInFront : Image → Damage → Type 0
 IsDamagedInFront image damage =
-    IsMissing image damage ⊎ (IsLogOutOfSize image damage ⊎ (IsFirstOutOfSize image damage ⊎ (IsVolumeOutOfSize image damage ⊎ HasNoSlot image damage)))
+    IsMissing image damage ⊎ (IsLogOutOfSize image damage
+    ⊎ (IsFirstOutOfSize image damage
+    ⊎ (IsVolumeOutOfSize image damage ⊎ HasNoSlot image damage)))
 
 abbrev pub IsDamaged : Image → Damage → Type 0
 IsDamaged image damage = IsDamagedInFront image damage ⊎ HasBrokenLog image damage
@@ -118,36 +133,45 @@ IsDamaged image damage = IsDamagedInFront image damage ⊎ HasBrokenLog image da
 
 -- the record says that a restore was begun and not ended
 abbrev pub IsRestoring : Image → Type 0
-IsRestoring image = (restart : RestartRecord) × HasRestart image restart × (restart.state ≡ RestoreOpen)
+IsRestoring image =
+    (restart : RestartRecord) × HasRestart image restart × (restart.state ≡ RestoreOpen)
 
 -- the numbers of the records that grow, beside those of snapshots
 abbrev pub restart_numbers : RestartRecord → List ℕ
 restart_numbers restart =
-    restart.slot ∷ restart.name.birth ∷ restart.name.generation ∷ restart.savepoint ∷ restart.commit ∷ restart.position ∷ restart.base ∷ restart.pending_savepoint ∷ []
+    restart.slot ∷ restart.name.birth ∷ restart.name.generation ∷ restart.savepoint ∷ restart.commit
+    ∷ restart.position ∷ restart.base ∷ restart.pending_savepoint ∷ []
 
 abbrev pub info_numbers : LogInfo → List ℕ
 info_numbers info =
-    info.slot ∷ info.name.birth ∷ info.name.generation ∷ info.saved_commit ∷ info.saved_position ∷ info.pending_commit ∷ info.pending_position ∷ []
+    info.slot ∷ info.name.birth ∷ info.name.generation ∷ info.saved_commit ∷ info.saved_position
+    ∷ info.pending_commit ∷ info.pending_position ∷ []
 
 abbrev pub is_past : List ℕ → Bool
 is_past numbers = list_any (λ number. nat_le (2 ^ 61) number) numbers
 
 abbrev pub has_past_snapshot : List SnapshotEntry → Bool
-has_past_snapshot entries = list_any (λ entry. nat_le (2 ^ 61) entry.commit || nat_le (2 ^ 61) entry.savepoint) entries
+has_past_snapshot entries =
+    list_any (λ entry. nat_le (2 ^ 61) entry.commit || nat_le (2 ^ 61) entry.savepoint) entries
 
 abbrev pub is_past_end : RestartRecord → LogInfo → Bool
-is_past_end restart info = is_past (restart_numbers restart) || (has_past_snapshot restart.snapshots.items || is_past (info_numbers info))
+is_past_end restart info =
+    is_past (restart_numbers restart) || (has_past_snapshot restart.snapshots.items
+    || is_past (info_numbers info))
 
 -- a number in the records is 2^61 or more
 abbrev pub IsPastEnd : Image → Type 0
-IsPastEnd image = (restart : RestartRecord) × HasRestart image restart × ((info : LogInfo) × HasLogInfo image info × IsTrue (is_past_end restart info))
+IsPastEnd image =
+    (restart : RestartRecord) × HasRestart image restart
+    × ((info : LogInfo) × HasLogInfo image info × IsTrue (is_past_end restart info))
 
 -- the same as a test of the records in force
 abbrev pub are_past_end : Option SlotBody → Option SlotBody → Bool
 are_past_end (Some (Restart restart)) (Some (LogBody info)) = is_past_end restart info
 are_past_end _ _ = false
 
--- whether a number that the line reads is past the end: the lines that open a database read its records
+-- whether a number that the line reads is past the end: the lines that open a database read its
+-- records
 abbrev pub past_end_in : Command → Image → Bool
 past_end_in line image = are_past_end (in_force image data_slots) (in_force image log_slots)
 
@@ -178,7 +202,8 @@ RefusesInFront image NumberEnd = IsPastEnd image
 RefusesInFront image DeviceFailed = Unit {0}
 RefusesInFront image _ = ⊥
 
--- the image has what an opening is refused for; a failed device and want of memory are not seen in it
+-- the image has what an opening is refused for; a failed device and want of memory are not seen in
+-- it
 abbrev pub Refuses : Image → Refusal → Type 0
 Refuses image (ToldDamaged damage) = IsDamaged image damage
 Refuses image ToldRestoreOpen = IsRestoring image

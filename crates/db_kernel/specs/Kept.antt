@@ -1,12 +1,14 @@
 -- What a kernel keeps, against the worlds that may be.
 --     IsWholeLog, Ready      the numbers of an open database fit each other
 --     made_of, HoldsAll      the name and the sizes, and that all commits stand in the log
---     IsAt, IsAtRest, AreOff, Fits      a kernel with an open database, and one with none, against the worlds that may be
+--     IsAt, IsAtRest, AreOff, Fits      a kernel with an open database, and one with none, against
+--         the worlds that may be
 --     Meets      the log of an open database is there
---     answer_of, AreFew, AreKeyed, NextIs      the answer to a line with the rows of a scan, and how these are asked for
+--     answer_of, AreFew, AreKeyed, NextIs      the answer to a line with the rows of a scan, and
+--         how these are asked for
 --     as_refusal      how a fault is answered
 --     RingIs, IsOf, OpenedIs      what opening a log of these commits gives
-use Rattle.std.specs.Prelude.{◌≡◌, ℕ, ◌+◌, ◌-◌, ◌^◌, ◌<◌, ◌≤◌, List, length, Option, Some, None, Result, Ok, Err, All, false, min}
+use Rattle.std.specs.Prelude.{◌≡◌, ℕ, ◌+◌, ◌-◌, ◌^◌, ◌<◌, List, length, Option, Some, None, Result, Ok, Err, All, false, min}
 use Rattle.std.specs.FinMap.{empty}
 use Rattle.mdb_model.specs.declared.change.Commit.{Commit}
 use Rattle.mdb_model.specs.declared.name.Session.{Session}
@@ -39,8 +41,8 @@ use Rattle.db_kernel.specs.declared.database.Access.TheVariants.{Admin, Online}
 use Rattle.creation.specs.Standing.{Made, Site, ring_of, made_at}
 use Rattle.db_kernel.specs.Sessions.{IsOpen, IsIdle, HasKeys, scan_answer, seen_rows}
 
--- The numbers of a log fit each other: it has fewer bytes behind where a restart begins than the ring, and there is room
--- for the numbers of all commits that it may still have.
+-- The numbers of a log fit each other: it has fewer bytes behind where a restart begins than the
+-- ring, and there is room for the numbers of all commits that it may still have.
 pub record IsWholeLog (ring : Ring) : Type 0 where
   pub order : InOrder ring
   pub room : ring.end_position < ring.redo_position + ring.size
@@ -55,7 +57,8 @@ Ready (Some database) = IsWholeLog database.ring
 
 -- what the kernel knows of the name and the sizes
 abbrev pub made_of : Database → Made
-made_of database = record { name = database.ring.name; blocks = database.blocks; ring = database.ring.size }
+made_of database =
+    record { name = database.ring.name; blocks = database.blocks; ring = database.ring.size }
 
 -- a restart begins with the first commit, and nothing is saved
 pub record HoldsAll (ring : Ring) : Type 0 where
@@ -63,10 +66,14 @@ pub record HoldsAll (ring : Ring) : Type 0 where
   pub saved : ring.saved_position ≡ 0
 
 abbrev pub IsAt : Database → List World → Type 0
-IsAt database ws = IsOpen database.rows.rows database.transactions (made_of database) database.ring.end_position database.ring.last_commit ws
+IsAt database ws =
+    IsOpen database.rows.rows database.transactions (made_of database) database.ring.end_position
+    database.ring.last_commit ws
 
 abbrev pub IsAtRest : Database → List World → Type 0
-IsAtRest database ws = IsIdle database.rows.rows database.transactions (made_of database) database.ring.end_position database.ring.last_commit ws
+IsAtRest database ws =
+    IsIdle database.rows.rows database.transactions (made_of database) database.ring.end_position
+    database.ring.last_commit ws
 
 -- as it is open, in Online or in Admin
 abbrev pub IsIn : Access → Database → List World → Type 0
@@ -97,12 +104,14 @@ scanned_rows (Some database) session = seen_rows database.rows.rows database.tra
 
 -- the answer to a line, by its reply and what is open then
 abbrev pub answer_of : Command → Option Database → Reply → Answer
-answer_of (ScanTable session table) database reply = scan_answer (scanned_rows database session) table reply
+answer_of (ScanTable session table) database reply =
+    scan_answer (scanned_rows database session) table reply
 answer_of _ database reply = plain reply
 
 -- a scan has few rows enough to be counted
 abbrev pub AreFew : Command → Option Database → Type 0
-AreFew (ScanTable session table) database = length (rows_of (scanned_rows database session) table.0) < 2 ^ 64
+AreFew (ScanTable session table) database =
+    length (rows_of (scanned_rows database session) table.0) < 2 ^ 64
 AreFew _ database = Unit {0}
 
 -- no row that the session sees has an empty key, so a scan may begin at it
@@ -112,8 +121,10 @@ AreKeyed _ database = Unit {0}
 
 -- the next row of a scan, or its end; a fault only where no database is open
 abbrev pub NextIs : Option Database → Session → Table → (after key value : List ℕ) → Next → Type 0
-NextIs database session table after key value Row = next_row (scanned_rows database session) table.0 after ≡ Some (key, value)
-NextIs database session table after key value End = next_row (scanned_rows database session) table.0 after ≡ None
+NextIs database session table after key value Row =
+    next_row (scanned_rows database session) table.0 after ≡ Some (key, value)
+NextIs database session table after key value End =
+    next_row (scanned_rows database session) table.0 after ≡ None
 NextIs database session table after key value (Fault reply) = database ≡ None
 
 -- Opening

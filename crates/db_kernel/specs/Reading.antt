@@ -15,7 +15,8 @@ use Rattle.db_kernel.specs.Damages.{HasRestart, HasLogInfo, start_of, is_past_en
 
 -- a data volume has the pages that the record says, and no fewer than a volume may have
 pub record VolumeFits (restart : RestartRecord) (volume : ℕ) (image : Image) : Type 0 where
-  pub size : size_of (image (Data (volume + 1))) ≡ Some (get_or restart.volumes.items volume 0 * 8192)
+  pub size : size_of (image (Data (volume + 1)))
+      ≡ Some (get_or restart.volumes.items volume 0 * 8192)
   pub least : 64 ≤ get_or restart.volumes.items volume 0
 
 -- the volumes have so many blocks together, within the limits of a data area

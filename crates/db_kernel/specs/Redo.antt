@@ -11,7 +11,7 @@ use Rattle.mdb_model.specs.declared.fault.OpenFault.TheVariants.{Memory as Wanti
 use Rattle.mdb_model.specs.Tables.{Tables, with_changes, with_commits}
 use Rattle.db_kernel.specs.Rows.{KeptRows}
 
--- all changes are made, or memory was wanting
+-- all changes are made, or memory ran out
 abbrev pub RedoneGroup : (before after : Tables) → List Change → Result (Unit {0}) Memory → Type 0
 RedoneGroup before after changes (Ok done) = after ≡ with_changes changes before
 RedoneGroup before after changes (Err memory) = Unit {0}

@@ -1,7 +1,8 @@
 -- What a refusal leaves, whatever the outside is.
 --     IsRefusal      a reply that is a refusal
 --     Stays      an open database as it was
---     RefusalLeaves      after damage and a failed device the kernel is off, after any other refusal all is as before
+--     RefusalLeaves      after damage and a failed device the kernel is off, after any other
+--         refusal all is as before
 use Rattle.std.specs.Prelude.{◌≡◌, Option, Some, None}
 use Rattle.mdb_model.specs.declared.script.Refusal.TheVariants.{Damaged, DeviceFailed}
 use Rattle.mdb_model.specs.declared.script.Reply.{Reply}

@@ -1,5 +1,6 @@
 -- What the rows in memory are seen as.
---     KeptRows, kept_rows_code      the committed rows and the free places behind them; how they are stored
+--     KeptRows, kept_rows_code      the committed rows and the free places behind them; how they
+--         are stored
 --     row_place, row_entry, row_parts      where a row stands, its entry, and its key and value
 --     rows_alone      what the rows in memory hold
 --     IsBehind      where the first one behind a key stands
@@ -13,7 +14,7 @@ use Rattle.mdb_bytes.specs.Held.{Holding}
 use Rattle.transactions.specs.Net.{place_code}
 use Rattle.db_kernel.specs.declared.rows.Row.{Row}
 
--- the committed rows, how many more need no further memory, and how often memory was wanting
+-- the committed rows, how many more need no further memory, and how often memory ran out
 pub record KeptRows : Type 0 where
   pub rows : Tables
   pub spare : ℕ
@@ -21,7 +22,9 @@ pub record KeptRows : Type 0 where
 
 abbrev pub kept_rows_code : Coded KeptRows
 kept_rows_code =
-    code_by (Tables × (ℕ × ℕ)) (coded× (fin.code place_code (coded_list coded_ℕ)) (coded× coded_ℕ coded_ℕ)) (λ kept. (kept.rows, (kept.spare, kept.faults))) (λ p. record { rows = p.0; spare = p.1.0; faults = p.1.1 }) (λ _. refl)
+    code_by (Tables × (ℕ × ℕ)) (coded× (fin.code place_code (coded_list coded_ℕ))
+    (coded× coded_ℕ coded_ℕ)) (λ kept. (kept.rows, (kept.spare, kept.faults)))
+    (λ p. record { rows = p.0; spare = p.1.0; faults = p.1.1 }) (λ _. refl)
 
 -- where a row stands
 abbrev pub row_place : Row → Place
@@ -37,11 +40,20 @@ row_parts row = (row.key, row.value)
 
 -- a keeper that holds these rows and nothing else
 abbrev pub rows_alone : Tables → Holding
-rows_alone rows = record { rows = rows; undo = fin.empty; log = record { name = record { birth = 0; generation = 1 }; after = 0; commits = [] } }
+rows_alone rows =
+    record {
+      rows = rows;
+      undo = fin.empty;
+      log = record
+          { name = record { birth = 0; generation = 1 }; after = 0; commits = [] };
+    }
 
-module _ {K X : Type 0} (order : K → K → Ordering) (key_of : X → K) (items : List X) (key : K) (at : ℕ) where
+module _ {K X : Type 0} (order : K → K → Ordering) (key_of : X → K) (items : List X)
+    (key : K) (at : ℕ) where
   -- the items before the index have keys up to this one, and those from it on greater ones
   pub record IsBehind : Type 0 where
     pub in_range : at ≤ length items
-    pub upto_before : (j : ℕ) (d : X) → j < at → order (key_of (slice_index_or items j d)) key ≢ Greater
-    pub greater_after : (j : ℕ) (d : X) → at ≤ j → j < length items → order (key_of (slice_index_or items j d)) key ≡ Greater
+    pub upto_before : (j : ℕ) (d : X) → j < at
+        → order (key_of (slice_index_or items j d)) key ≢ Greater
+    pub greater_after : (j : ℕ) (d : X) → at ≤ j → j < length items
+        → order (key_of (slice_index_or items j d)) key ≡ Greater

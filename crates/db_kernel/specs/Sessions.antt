@@ -1,7 +1,9 @@
 -- What a kernel with an open database keeps, against the machine, and how its calls are answered.
 --     HasKeys      no row has an empty key
---     IsOpen, IsIdle      the world of an open database, by what the kernel keeps, in Online and in Admin
---     refusal_of, got_reply, put_reply, del_reply, scan_answer      how a call of a session is answered
+--     IsOpen, IsIdle      the world of an open database, by what the kernel keeps, in Online and in
+--         Admin
+--     refusal_of, got_reply, put_reply, del_reply, scan_answer      how a call of a session is
+--         answered
 use Rattle.std.specs.Prelude.{◌≡◌, ℕ, ◌-◌, ◌<◌, List, [], ◌∷◌, Bool, true, false, None, Result, Ok, Err, length, min}
 use Rattle.std.specs.Ordering.{nat_cmp}
 use Rattle.std.specs.FinMap.{FinMap, empty, get, values}
@@ -30,8 +32,10 @@ use Rattle.db_kernel.specs.Working.{working, in_admin}
 abbrev pub HasKeys : Tables → Type 0
 HasKeys tables = (table : ℕ) → get tables (table, []) ≡ None
 
--- The one world that an open database works on: its rows are those of its commits, and its log holds them.
-pub record IsOpen (rows : Tables) (ongoing : Ongoing) (made : Made) (end number : ℕ) (ws : List World) : Type 0 where
+-- The one world that an open database works on: its rows are those of its commits, and its log
+-- holds them.
+pub record IsOpen (rows : Tables) (ongoing : Ongoing) (made : Made) (end number : ℕ)
+    (ws : List World) : Type 0 where
   pub commits : List Commit
   pub sessions : FinMap nat_cmp Transaction
   pub is : ws ≡ working made commits sessions ∷ []
@@ -44,7 +48,8 @@ pub record IsOpen (rows : Tables) (ongoing : Ongoing) (made : Made) (end number 
   pub room : end < made.ring
 
 -- The same in Admin: no session has locked or changed anything.
-pub record IsIdle (rows : Tables) (ongoing : Ongoing) (made : Made) (end number : ℕ) (ws : List World) : Type 0 where
+pub record IsIdle (rows : Tables) (ongoing : Ongoing) (made : Made) (end number : ℕ)
+    (ws : List World) : Type 0 where
   pub commits : List Commit
   pub is : ws ≡ in_admin made commits ∷ []
   pub tables : rows ≡ with_commits commits empty

@@ -12,22 +12,29 @@ use Rattle.mdb_host.specs.Disk.{Disk, Keeps}
 
 module _ (reading : PageReading) (stands : Image → World → Type 0) where
   abbrev pub Stand : Disk → List World → Type 0
-  Stand disk ws = (image : Image) → disk.may_leave disk.now image → (w : World) × Contains ws w × stands image (off w)
+  Stand disk ws =
+      (image : Image) → disk.may_leave disk.now image
+      → (w : World) × Contains ws w × stands image (off w)
 
   -- the world before it, or an outcome of the line
   abbrev pub MayBe : List World → Line → World → Type 0
-  MayBe ws line v = (w : World) × Contains ws w × ((v ≡ off w) ⊎ ((outcome : List World) × AreOutcomes reading w line outcome × Contains outcome v))
+  MayBe ws line v =
+      (w : World) × Contains ws w × ((v ≡ off w)
+      ⊎ ((outcome : List World) × AreOutcomes reading w line outcome × Contains outcome v))
 
-  pub record Does (old new : Disk) (ws : List World) (line : Line) (answer : Answer) (after : List World) : Type 0 where
+  pub record Does (old new : Disk) (ws : List World) (line : Line) (answer : Answer)
+      (after : List World) : Type 0 where
     pub keeps : Keeps old new
     -- nothing was said
     pub quiet : (t : ℕ) → old.now ≤ t → t ≤ new.now → new.said t ≡ old.said old.now
     pub entry : Entry reading ws line answer after
     -- at each moment since, each image stands for the world before it or for an outcome
-    pub stop : (t : ℕ) (image : Image) → old.now ≤ t → t ≤ new.now → new.may_leave t image → (v : World) × stands image v × MayBe ws line v
+    pub stop : (t : ℕ) (image : Image) → old.now ≤ t → t ≤ new.now → new.may_leave t image
+        → (v : World) × stands image v × MayBe ws line v
     pub stand : Stand new after
 
-  pub record Completes (old new : Disk) (ws : List World) (line : Line) (answer : Answer) (fits : List World → Type 0) : Type 0 where
+  pub record Completes (old new : Disk) (ws : List World) (line : Line) (answer : Answer)
+      (fits : List World → Type 0) : Type 0 where
     pub after : List World
     pub does : Does old new ws line answer after
     pub fit : fits after

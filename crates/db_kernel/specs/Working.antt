@@ -1,5 +1,6 @@
 -- The worlds that a kernel with rows in memory works on.
---     working, in_admin      a world in Online, with the transactions of its sessions; a world in Admin
+--     working, in_admin      a world in Online, with the transactions of its sessions; a world in
+--         Admin
 --     open_of, seen_by      what a session has done so far, and the rows that it sees
 --     with_lock, with_one_change      one more lock, one more change of a session
 --     Moves      a line that calls no device
@@ -27,7 +28,8 @@ no_pages = record {
 }
 
 abbrev pub working : Made → List Commit → FinMap nat_cmp Transaction → World
-working made commits sessions = record (at_rest made commits) { state = Online; sessions = sessions }
+working made commits sessions =
+    record (at_rest made commits) { state = Online; sessions = sessions }
 
 -- a world in Admin, where no session works
 abbrev pub in_admin : Made → List Commit → World
@@ -44,7 +46,10 @@ seen_by sessions session committed = with_changes (open_of sessions session).cha
 -- with one more lock of a session
 abbrev pub with_lock : FinMap nat_cmp Transaction → ℕ → Lock → FinMap nat_cmp Transaction
 with_lock sessions session lock =
-    insert sessions session (record (open_of sessions session) { locks = lock ∷ (open_of sessions session).locks })
+    insert sessions session (record (open_of sessions session) {
+      locks = lock
+          ∷ (open_of sessions session).locks;
+    })
 
 -- with one more change of a session, and its lock
 abbrev pub with_one_change : FinMap nat_cmp Transaction → ℕ → Change → FinMap nat_cmp Transaction
@@ -59,7 +64,8 @@ abbrev pub StandsOf : List World → Image → Type 0
 StandsOf ws image = (w : World) × Contains ws w × Stands image (off w)
 
 -- a line that calls no device: an entry, to worlds that fit and that the same images stand for
-pub record Moves (ws : List World) (line : Line) (answer : Answer) (fits : List World → Type 0) : Type 0 where
+pub record Moves (ws : List World) (line : Line) (answer : Answer) (fits : List World → Type 0)
+    : Type 0 where
   pub after : List World
   pub entry : Entry no_pages ws line answer after
   pub fit : fits after

@@ -75,7 +75,8 @@ impl Database {
         requires table { IsTrue (is_table table.0) }
         requires key { IsTrue (is_key key.now) }
         ensures ring { self.new.ring ≡ self.old.ring }
-        ensures moves { (ws : List World) → FitsOpen self.old ws → Moves ws (Some (GetRow session table key.now)) (plain result) (FitsOpen self.new) }
+        ensures moves { (ws : List World) → FitsOpen self.old ws
+            → Moves ws (Some (GetRow session table key.now)) (plain result) (FitsOpen self.new) }
         ensures inside { IsInside result }
         ensures refused { IsRefusal result → Stays self.old self.new }
     {
@@ -90,7 +91,9 @@ impl Database {
         requires session { IsTrue (is_session session.0) }
         requires fits { IsTrue (change_fits (Put table key.now value.now)) }
         ensures ring { self.new.ring ≡ self.old.ring }
-        ensures moves { (ws : List World) → FitsOpen self.old ws → Moves ws (Some (PutRow session table key.now value.now)) (plain result) (FitsOpen self.new) }
+        ensures moves { (ws : List World) → FitsOpen self.old ws
+            → Moves ws (Some (PutRow session table key.now value.now)) (plain result)
+            (FitsOpen self.new) }
         ensures inside { IsInside result }
         ensures refused { IsRefusal result → Stays self.old self.new }
     {
@@ -105,7 +108,8 @@ impl Database {
         requires session { IsTrue (is_session session.0) }
         requires fits { IsTrue (change_fits (Del table key.now)) }
         ensures ring { self.new.ring ≡ self.old.ring }
-        ensures moves { (ws : List World) → FitsOpen self.old ws → Moves ws (Some (DelRow session table key.now)) (plain result) (FitsOpen self.new) }
+        ensures moves { (ws : List World) → FitsOpen self.old ws
+            → Moves ws (Some (DelRow session table key.now)) (plain result) (FitsOpen self.new) }
         ensures inside { IsInside result }
         ensures refused { IsRefusal result → Stays self.old self.new }
     {
@@ -119,7 +123,8 @@ impl Database {
     pub fn rollback(&mut self, session: Session) -> Reply
         requires session { IsTrue (is_session session.0) }
         ensures ring { self.new.ring ≡ self.old.ring }
-        ensures moves { (ws : List World) → FitsOpen self.old ws → Moves ws (Some (RollbackWork session)) (plain result) (FitsOpen self.new) }
+        ensures moves { (ws : List World) → FitsOpen self.old ws
+            → Moves ws (Some (RollbackWork session)) (plain result) (FitsOpen self.new) }
         ensures inside { IsInside result }
         ensures refused { IsRefusal result → Stays self.old self.new }
     {
@@ -134,14 +139,18 @@ impl Database {
         requires session { IsTrue (is_session session.0) }
         ensures ring { self.new.ring ≡ self.old.ring }
         ensures moves { (ws : List World) → FitsOpen self.old ws
-            → Moves ws (Some (ScanTable session table)) (scan_answer (seen_rows self.new.rows.rows self.new.transactions session.0) table result) (FitsOpen self.new) }
-        ensures keyed { (ws : List World) → FitsOpen self.old ws → HasKeys (seen_rows self.new.rows.rows self.new.transactions session.0) }
-        ensures few { length (rows_of (seen_rows self.new.rows.rows self.new.transactions session.0) table.0) < 2 ^ 64 }
+            → Moves ws (Some (ScanTable session table))
+            (scan_answer (seen_rows self.new.rows.rows self.new.transactions session.0) table
+            result) (FitsOpen self.new) }
+        ensures keyed { (ws : List World) → FitsOpen self.old ws
+            → HasKeys (seen_rows self.new.rows.rows self.new.transactions session.0) }
+        ensures few { length (rows_of (seen_rows self.new.rows.rows self.new.transactions session.0)
+            table.0) < 2 ^ 64 }
         ensures inside { IsInside result }
         ensures refused { IsRefusal result → Stays self.old self.new }
     {
         // A scan has no more rows than these, so they can be counted.
-        let _most = self.rows.len() + self.transactions.changes(session).len();
+        let _most = self.rows.len() + self.transactions.changed(session) as usize;
         match self.access {
             Access::Admin => Reply::Refused(Refusal::WrongState(State::Admin)),
             Access::Online => self.lock_table(session, table),
@@ -158,7 +167,8 @@ impl Database {
         ensures size { self.new.ring.size ≡ self.old.ring.size }
         ensures ring { H.tells → HasRing self.old.ring.size (H.disk host.new).seen }
         ensures keeps { H.tells → Keeps (H.disk host.old) (H.disk host.new) }
-        ensures does { H.tells → (ws : List World) → FitsOpen self.old ws → Stand no_pages Stands (H.disk host.old) ws
+        ensures does { H.tells → (ws : List World) → FitsOpen self.old ws
+            → Stand no_pages Stands (H.disk host.old) ws
             → CommitDoes (H.disk host.old) (H.disk host.new) ws session (FitsOpen self.new) result }
         ensures cause { HasCause (H.faults host.old) (H.faults host.new) result }
         ensures inside { IfOk result IsInside }
@@ -175,7 +185,8 @@ impl Database {
     pub fn go_admin(&mut self, alloc: Global) -> Reply
         requires log { IsWholeLog self.old.ring }
         ensures ring { self.new.ring ≡ self.old.ring }
-        ensures moves { (ws : List World) → FitsOpen self.old ws → Moves ws (Some DbAdmin) (plain result) (FitsOpen self.new) }
+        ensures moves { (ws : List World) → FitsOpen self.old ws
+            → Moves ws (Some DbAdmin) (plain result) (FitsOpen self.new) }
         ensures inside { IsInside result }
         ensures refused { IsRefusal result → Stays self.old self.new }
     {
@@ -191,7 +202,8 @@ impl Database {
     /// Lets the sessions in, where they were not.
     pub fn go_online(&mut self) -> Reply
         ensures ring { self.new.ring ≡ self.old.ring }
-        ensures moves { (ws : List World) → FitsOpen self.old ws → Moves ws (Some DbOnline) (plain result) (FitsOpen self.new) }
+        ensures moves { (ws : List World) → FitsOpen self.old ws
+            → Moves ws (Some DbOnline) (plain result) (FitsOpen self.new) }
         ensures inside { IsInside result }
         ensures refused { IsRefusal result → Stays self.old self.new }
     {
@@ -211,7 +223,8 @@ impl Database {
         requires key { IsTrue (is_key key.now) }
         ensures ring { self.new.ring ≡ self.old.ring }
         ensures access { self.new.access ≡ self.old.access }
-        ensures moves { (ws : List World) → IsAt self.old ws → Moves ws (Some (GetRow session table key.now)) (plain result) (IsAt self.new) }
+        ensures moves { (ws : List World) → IsAt self.old ws
+            → Moves ws (Some (GetRow session table key.now)) (plain result) (IsAt self.new) }
         ensures inside { IsInside result }
         ensures refused { IsRefusal result → Stays self.old self.new }
     {
@@ -228,7 +241,9 @@ impl Database {
         requires fits { IsTrue (change_fits (Put table key.now value.now)) }
         ensures ring { self.new.ring ≡ self.old.ring }
         ensures access { self.new.access ≡ self.old.access }
-        ensures moves { (ws : List World) → IsAt self.old ws → Moves ws (Some (PutRow session table key.now value.now)) (plain result) (IsAt self.new) }
+        ensures moves { (ws : List World) → IsAt self.old ws
+            → Moves ws (Some (PutRow session table key.now value.now)) (plain result)
+            (IsAt self.new) }
         ensures inside { IsInside result }
         ensures refused { IsRefusal result → Stays self.old self.new }
     {
@@ -244,7 +259,8 @@ impl Database {
         requires fits { IsTrue (change_fits (Del table key.now)) }
         ensures ring { self.new.ring ≡ self.old.ring }
         ensures access { self.new.access ≡ self.old.access }
-        ensures moves { (ws : List World) → IsAt self.old ws → Moves ws (Some (DelRow session table key.now)) (plain result) (IsAt self.new) }
+        ensures moves { (ws : List World) → IsAt self.old ws
+            → Moves ws (Some (DelRow session table key.now)) (plain result) (IsAt self.new) }
         ensures inside { IsInside result }
         ensures refused { IsRefusal result → Stays self.old self.new }
     {
@@ -260,14 +276,18 @@ impl Database {
         ensures ring { self.new.ring ≡ self.old.ring }
         ensures access { self.new.access ≡ self.old.access }
         ensures moves { (ws : List World) → IsAt self.old ws
-            → Moves ws (Some (ScanTable session table)) (scan_answer (seen_rows self.new.rows.rows self.new.transactions session.0) table result) (IsAt self.new) }
-        ensures keyed { (ws : List World) → IsAt self.old ws → HasKeys (seen_rows self.new.rows.rows self.new.transactions session.0) }
-        ensures few { length (rows_of (seen_rows self.new.rows.rows self.new.transactions session.0) table.0) < 2 ^ 64 }
+            → Moves ws (Some (ScanTable session table))
+            (scan_answer (seen_rows self.new.rows.rows self.new.transactions session.0) table
+            result) (IsAt self.new) }
+        ensures keyed { (ws : List World) → IsAt self.old ws
+            → HasKeys (seen_rows self.new.rows.rows self.new.transactions session.0) }
+        ensures few { length (rows_of (seen_rows self.new.rows.rows self.new.transactions session.0)
+            table.0) < 2 ^ 64 }
         ensures inside { IsInside result }
         ensures refused { IsRefusal result → Stays self.old self.new }
     {
         // A scan has no more rows than these, so they can be counted.
-        let _most = self.rows.len() + self.transactions.changes(session).len();
+        let _most = self.rows.len() + self.transactions.changed(session) as usize;
         scan_opened(self.transactions.scan(session, table))
     }
 
@@ -281,11 +301,14 @@ impl Database {
         value: &mut ValueBuf,
     ) -> bool
         requires session { IsTrue (is_session session.0) }
-        ensures { IsNextRow result (next_row (seen_rows self.now.rows.rows self.now.transactions session.0) table.0 after.now.items) key.new.items value.new.items }
+        ensures { IsNextRow result (next_row
+            (seen_rows self.now.rows.rows self.now.transactions session.0) table.0 after.now.items)
+            key.new.items value.new.items }
     {
         next_seen(
             &self.rows,
-            self.transactions.changes(session),
+            &self.transactions,
+            session,
             table,
             after,
             key,
@@ -298,7 +321,8 @@ impl Database {
         requires session { IsTrue (is_session session.0) }
         ensures ring { self.new.ring ≡ self.old.ring }
         ensures access { self.new.access ≡ self.old.access }
-        ensures moves { (ws : List World) → IsAt self.old ws → Moves ws (Some (RollbackWork session)) (plain result) (IsAt self.new) }
+        ensures moves { (ws : List World) → IsAt self.old ws
+            → Moves ws (Some (RollbackWork session)) (plain result) (IsAt self.new) }
         ensures inside { IsInside result }
         ensures refused { IsRefusal result → Stays self.old self.new }
     {
@@ -318,7 +342,8 @@ impl Database {
         ensures access { self.new.access ≡ self.old.access }
         ensures ring { H.tells → HasRing self.old.ring.size (H.disk host.new).seen }
         ensures keeps { H.tells → Keeps (H.disk host.old) (H.disk host.new) }
-        ensures does { H.tells → (ws : List World) → HoldsAll self.old.ring → IsAt self.old ws → Stand no_pages Stands (H.disk host.old) ws
+        ensures does { H.tells → (ws : List World) → HoldsAll self.old.ring → IsAt self.old ws
+            → Stand no_pages Stands (H.disk host.old) ws
             → CommitDoes (H.disk host.old) (H.disk host.new) ws session (IsAt self.new) result }
         ensures cause { HasCause (H.faults host.old) (H.faults host.new) result }
         ensures inside { IfOk result IsInside }
@@ -335,19 +360,20 @@ impl Database {
         else {
             return Ok(Reply::Refused(Refusal::MemoryWanting));
         };
-        match log_changes(
-            host,
-            &mut self.ring,
-            &mut self.group,
-            self.transactions.changes(session),
-        ) {
+        let Ok(changes) = self.transactions.listed(session) else {
+            return Ok(Reply::Refused(Refusal::MemoryWanting));
+        };
+        match log_changes(host, &mut self.ring, &mut self.group, &changes) {
             Ok(()) => {}
             Err(RingFault::Failed) => return Err(Failed),
-            Err(RingFault::Full { .. }) => return Ok(Reply::Refused(log_full(&self.ring))),
+            Err(RingFault::Full { .. }) => {
+                self.transactions.give_back(session, changes);
+                return Ok(Reply::Refused(log_full(&self.ring)));
+            }
             // A restart needs no more of the log than what is not saved.
             Err(RingFault::Pinned) => return Ok(Reply::Refused(log_full(&self.ring))),
         }
-        self.settle(session);
+        self.settle(session, changes);
         Ok(Reply::Committed(self.ring.last_commit))
     }
 
@@ -356,23 +382,28 @@ impl Database {
         requires log { IsWholeLog self.old.ring }
         ensures ring { self.new.ring ≡ self.old.ring }
         ensures access { self.new.access ≡ Admin }
-        ensures moves { (ws : List World) → IsAt self.old ws → Moves ws (Some DbAdmin) (plain (AdminAt self.old.ring.last_commit)) (IsAtRest self.new) }
+        ensures moves { (ws : List World) → IsAt self.old ws
+            → Moves ws (Some DbAdmin) (plain (AdminAt self.old.ring.last_commit))
+            (IsAtRest self.new) }
     {
         self.transactions = Transactions::new(alloc, most_bytes(self.ring.size));
         self.access = Access::Admin;
     }
 
-    // Makes the session's changes in the rows, and ends its transaction. It takes no memory.
-    fn settle(&mut self, session: Session)
+    // Makes the session's changes, as they were listed, in the rows, and ends its transaction. It
+    // takes no memory.
+    fn settle(&mut self, session: Session, changes: Vec<Change>)
         requires session { IsTrue (is_session session.0) }
+        requires listed { changes.items ≡ values (changes_of self.old.transactions session.0) }
         requires room { len (changes_of self.old.transactions session.0) ≤ self.old.rows.spare }
-        ensures rows { self.new.rows.rows ≡ with_changes (values (changes_of self.old.transactions session.0)) self.old.rows.rows }
+        ensures rows { self.new.rows.rows
+            ≡ with_changes (values (changes_of self.old.transactions session.0))
+            self.old.rows.rows }
         ensures ended { Ended self.old.transactions self.new.transactions session.0 }
         ensures ring { self.new.ring ≡ self.old.ring }
         ensures blocks { self.new.blocks ≡ self.old.blocks }
         ensures access { self.new.access ≡ self.old.access }
     {
-        let changes = self.transactions.take_changes(session);
         self.rows.apply_all(changes);
         self.transactions.ended(session);
     }
@@ -401,13 +432,23 @@ fn log_changes<H: Host>(
     requires ascend { IsTrue (rises place_cmp (map place_of changes.now)) }
     requires each_fits { IsTrue (list_all change_fits changes.now) }
     requires fit { group_bytes changes.now ≤ longest_group }
-    ensures answer { AppendAnswer ring.old.size (ring.old.end_position - ring.old.saved_position) (ring.old.end_position - ring.old.redo_position) (group_bytes changes.now) result }
-    ensures ok { OnOk result (ring.new ≡ record ring.old { end_position = ring.old.end_position + group_bytes changes.now; last_commit = ring.old.last_commit + 1 }) }
+    ensures answer { AppendAnswer ring.old.size (ring.old.end_position - ring.old.saved_position)
+        (ring.old.end_position - ring.old.redo_position) (group_bytes changes.now) result }
+    ensures ok { OnOk result (ring.new ≡ record ring.old {
+      end_position = ring.old.end_position
+          + group_bytes changes.now;
+      last_commit = ring.old.last_commit + 1;
+    }) }
     ensures err { OnErr result (ring.new ≡ ring.old) }
     ensures untouched { Untouched result (host.new ≡ host.old) }
     ensures log { IsWholeLog ring.new }
-    ensures any_moment { H.tells → Goes (H.disk host.old) (H.disk host.new) (Appends ring.old.size ring.old.name ring.old.end_position ring.old.last_commit changes.now) }
-    ensures there { OnOk result (H.tells → Arrives (H.disk host.old) (H.disk host.new) (Appended ring.old.size ring.old.name ring.old.end_position ring.old.last_commit changes.now)) }
+    ensures any_moment { H.tells → Goes (H.disk host.old) (H.disk host.new)
+        (Appends ring.old.size ring.old.name ring.old.end_position ring.old.last_commit
+        changes.now) }
+    ensures there { OnOk result (H.tells
+        → Arrives (H.disk host.old) (H.disk host.new)
+        (Appended ring.old.size ring.old.name ring.old.end_position ring.old.last_commit
+        changes.now)) }
     ensures still { H.tells → HasRing ring.old.size (H.disk host.new).seen }
     ensures later { H.faults host.old ≤ H.faults host.new }
     ensures cause { result ≡ Err RingFault.Failed → Rose (H.faults host.old) (H.faults host.new) }
@@ -420,7 +461,8 @@ fn log_changes<H: Host>(
 // The log has no room for a group beside what is not saved.
 fn log_full(ring: &Ring) -> Refusal
     requires { IsWholeLog ring.now }
-    ensures { result ≡ Refusal.LogFull (ring.now.end_position - ring.now.saved_position) ring.now.size }
+    ensures { result ≡ Refusal.LogFull (ring.now.end_position - ring.now.saved_position)
+        ring.now.size }
 {
     Refusal::LogFull {
         unsaved: ring.end_position - ring.saved_position,

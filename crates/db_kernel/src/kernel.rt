@@ -67,16 +67,21 @@ impl Kernel {
         ensures ready { Ready self.new.database }
         ensures meets { H.tells → Meets self.new.database (H.disk host.new).seen }
         ensures keeps { H.tells → Keeps (H.disk host.old) (H.disk host.new) }
-        ensures does { H.tells → (ws : List World) → Fits self.old.database ws → Stand no_pages Stands (H.disk host.old) ws
-            → Completes no_pages Stands (H.disk host.old) (H.disk host.new) ws (Some line.now) (answer_of line.now self.new.database result) (Fits self.new.database) }
+        ensures does { H.tells → (ws : List World) → Fits self.old.database ws
+            → Stand no_pages Stands (H.disk host.old) ws
+            → Completes no_pages Stands (H.disk host.old) (H.disk host.new) ws (Some line.now)
+            (answer_of line.now self.new.database result) (Fits self.new.database) }
         ensures few { AreFew line.now self.new.database }
-        ensures keyed { H.tells → (ws : List World) → Fits self.old.database ws → AreKeyed line.now self.new.database }
-        ensures in_reach { H.tells → self.old.database ≡ None → IsOpener line.now → IsOpenReply result
+        ensures keyed { H.tells → (ws : List World) → Fits self.old.database ws
+            → AreKeyed line.now self.new.database }
+        ensures in_reach { H.tells → self.old.database ≡ None → IsOpener line.now
+            → IsOpenReply result
             → EachLeft (H.disk host.new) IsInReach }
         ensures past_end { H.tells → result ≡ Reply.Refused Refusal.NumberEnd
             → EachLeft (H.disk host.new) (λ image. past_end_in line.now image ≡ true) }
         ensures later { H.faults host.old ≤ H.faults host.new }
-        ensures cause { result ≡ Reply.Refused Refusal.DeviceFailed → Rose (H.faults host.old) (H.faults host.new) }
+        ensures cause { result ≡ Reply.Refused Refusal.DeviceFailed
+            → Rose (H.faults host.old) (H.faults host.new) }
         ensures damage { H.tells → RepliesDamage (H.disk host.old).seen result }
         ensures refused { RefusalLeaves self.old.database self.new.database result }
         ensures say_faults { H.say_faults host.new ≡ H.say_faults host.old }
@@ -111,7 +116,8 @@ impl Kernel {
         }
     }
 
-    /// The next row of a scan that is open: the first one behind a key, which is empty at its start.
+    /// The next row of a scan that is open: the first one behind a key, which is empty at its
+    /// start.
     pub fn scan_next(
         &self,
         session: Session,
@@ -121,7 +127,8 @@ impl Kernel {
         value: &mut ValueBuf,
     ) -> Next
         requires session { IsTrue (is_session session.0) }
-        ensures { NextIs self.now.database session table after.now.items key.new.items value.new.items result }
+        ensures { NextIs self.now.database session table after.now.items key.new.items
+            value.new.items result }
     {
         let Some(database) = &self.database else {
             return Next::Fault(Reply::Refused(Refusal::WrongState(State::Offline)));
@@ -139,8 +146,11 @@ impl Kernel {
         requires key { IsTrue (is_key key.now) }
         requires ready { Ready self.old.database }
         ensures ready { Ready self.new.database }
-        ensures meets { (image : Image) → Meets self.old.database image → Meets self.new.database image }
-        ensures moves { (ws : List World) → Fits self.old.database ws → Moves ws (Some (GetRow session table key.now)) (plain result) (Fits self.new.database) }
+        ensures meets { (image : Image) → Meets self.old.database image
+            → Meets self.new.database image }
+        ensures moves { (ws : List World) → Fits self.old.database ws
+            → Moves ws (Some (GetRow session table key.now)) (plain result)
+            (Fits self.new.database) }
         ensures inside { IsInside result }
         ensures refused { RefusalLeaves self.old.database self.new.database result }
     {
@@ -155,8 +165,11 @@ impl Kernel {
         requires fits { IsTrue (change_fits (Put table key.now value.now)) }
         requires ready { Ready self.old.database }
         ensures ready { Ready self.new.database }
-        ensures meets { (image : Image) → Meets self.old.database image → Meets self.new.database image }
-        ensures moves { (ws : List World) → Fits self.old.database ws → Moves ws (Some (PutRow session table key.now value.now)) (plain result) (Fits self.new.database) }
+        ensures meets { (image : Image) → Meets self.old.database image
+            → Meets self.new.database image }
+        ensures moves { (ws : List World) → Fits self.old.database ws
+            → Moves ws (Some (PutRow session table key.now value.now)) (plain result)
+            (Fits self.new.database) }
         ensures inside { IsInside result }
         ensures refused { RefusalLeaves self.old.database self.new.database result }
     {
@@ -171,8 +184,11 @@ impl Kernel {
         requires fits { IsTrue (change_fits (Del table key.now)) }
         requires ready { Ready self.old.database }
         ensures ready { Ready self.new.database }
-        ensures meets { (image : Image) → Meets self.old.database image → Meets self.new.database image }
-        ensures moves { (ws : List World) → Fits self.old.database ws → Moves ws (Some (DelRow session table key.now)) (plain result) (Fits self.new.database) }
+        ensures meets { (image : Image) → Meets self.old.database image
+            → Meets self.new.database image }
+        ensures moves { (ws : List World) → Fits self.old.database ws
+            → Moves ws (Some (DelRow session table key.now)) (plain result)
+            (Fits self.new.database) }
         ensures inside { IsInside result }
         ensures refused { RefusalLeaves self.old.database self.new.database result }
     {
@@ -186,11 +202,15 @@ impl Kernel {
         requires session { IsTrue (is_session session.0) }
         requires ready { Ready self.old.database }
         ensures ready { Ready self.new.database }
-        ensures meets { (image : Image) → Meets self.old.database image → Meets self.new.database image }
+        ensures meets { (image : Image) → Meets self.old.database image
+            → Meets self.new.database image }
         ensures moves { (ws : List World) → Fits self.old.database ws
-            → Moves ws (Some (ScanTable session table)) (scan_answer (scanned_rows self.new.database session) table result) (Fits self.new.database) }
+            → Moves ws (Some (ScanTable session table))
+            (scan_answer (scanned_rows self.new.database session) table result)
+            (Fits self.new.database) }
         ensures few { AreFew (ScanTable session table) self.new.database }
-        ensures keyed { (ws : List World) → Fits self.old.database ws → AreKeyed (ScanTable session table) self.new.database }
+        ensures keyed { (ws : List World) → Fits self.old.database ws
+            → AreKeyed (ScanTable session table) self.new.database }
         ensures inside { IsInside result }
         ensures refused { RefusalLeaves self.old.database self.new.database result }
     {
@@ -204,8 +224,10 @@ impl Kernel {
         requires session { IsTrue (is_session session.0) }
         requires ready { Ready self.old.database }
         ensures ready { Ready self.new.database }
-        ensures meets { (image : Image) → Meets self.old.database image → Meets self.new.database image }
-        ensures moves { (ws : List World) → Fits self.old.database ws → Moves ws (Some (RollbackWork session)) (plain result) (Fits self.new.database) }
+        ensures meets { (image : Image) → Meets self.old.database image
+            → Meets self.new.database image }
+        ensures moves { (ws : List World) → Fits self.old.database ws
+            → Moves ws (Some (RollbackWork session)) (plain result) (Fits self.new.database) }
         ensures inside { IsInside result }
         ensures refused { RefusalLeaves self.old.database self.new.database result }
     {
@@ -217,7 +239,8 @@ impl Kernel {
 
     fn kill(&mut self) -> Reply
         ensures off { self.new.database ≡ None }
-        ensures moves { (ws : List World) → Fits self.old.database ws → Moves ws (Some Kill) (plain result) (Fits self.new.database) }
+        ensures moves { (ws : List World) → Fits self.old.database ws
+            → Moves ws (Some Kill) (plain result) (Fits self.new.database) }
         ensures inside { IsInside result }
         ensures refused { RefusalLeaves self.old.database self.new.database result }
     {
@@ -232,11 +255,14 @@ impl Kernel {
         ensures ready { Ready self.new.database }
         ensures meets { H.tells → Meets self.new.database (H.disk host.new).seen }
         ensures keeps { H.tells → Keeps (H.disk host.old) (H.disk host.new) }
-        ensures does { H.tells → (ws : List World) → Fits self.old.database ws → Stand no_pages Stands (H.disk host.old) ws
-            → Completes no_pages Stands (H.disk host.old) (H.disk host.new) ws (Some (CommitWork session)) (plain result) (Fits self.new.database) }
+        ensures does { H.tells → (ws : List World) → Fits self.old.database ws
+            → Stand no_pages Stands (H.disk host.old) ws
+            → Completes no_pages Stands (H.disk host.old) (H.disk host.new) ws
+            (Some (CommitWork session)) (plain result) (Fits self.new.database) }
         ensures no_end { result ≡ Reply.Refused Refusal.NumberEnd → ⊥ }
         ensures later { H.faults host.old ≤ H.faults host.new }
-        ensures cause { result ≡ Reply.Refused Refusal.DeviceFailed → Rose (H.faults host.old) (H.faults host.new) }
+        ensures cause { result ≡ Reply.Refused Refusal.DeviceFailed
+            → Rose (H.faults host.old) (H.faults host.new) }
         ensures damage { H.tells → RepliesDamage (H.disk host.old).seen result }
         ensures refused { RefusalLeaves self.old.database self.new.database result }
         ensures say_faults { H.say_faults host.new ≡ H.say_faults host.old }
@@ -260,13 +286,17 @@ impl Kernel {
         ensures ready { Ready self.new.database }
         ensures meets { H.tells → Meets self.new.database (H.disk host.new).seen }
         ensures keeps { H.tells → Keeps (H.disk host.old) (H.disk host.new) }
-        ensures does { H.tells → (ws : List World) → Fits self.old.database ws → Stand no_pages Stands (H.disk host.old) ws
-            → Completes no_pages Stands (H.disk host.old) (H.disk host.new) ws (Some DbAdmin) (plain result) (Fits self.new.database) }
-        ensures in_reach { H.tells → self.old.database ≡ None → IsOpenReply result → EachLeft (H.disk host.new) IsInReach }
+        ensures does { H.tells → (ws : List World) → Fits self.old.database ws
+            → Stand no_pages Stands (H.disk host.old) ws
+            → Completes no_pages Stands (H.disk host.old) (H.disk host.new) ws (Some DbAdmin)
+            (plain result) (Fits self.new.database) }
+        ensures in_reach { H.tells → self.old.database ≡ None → IsOpenReply result
+            → EachLeft (H.disk host.new) IsInReach }
         ensures past_end { H.tells → result ≡ Reply.Refused Refusal.NumberEnd
             → EachLeft (H.disk host.new) (λ image. past_end_in DbAdmin image ≡ true) }
         ensures later { H.faults host.old ≤ H.faults host.new }
-        ensures cause { result ≡ Reply.Refused Refusal.DeviceFailed → Rose (H.faults host.old) (H.faults host.new) }
+        ensures cause { result ≡ Reply.Refused Refusal.DeviceFailed
+            → Rose (H.faults host.old) (H.faults host.new) }
         ensures damage { H.tells → RepliesDamage (H.disk host.old).seen result }
         ensures refused { RefusalLeaves self.old.database self.new.database result }
         ensures say_faults { H.say_faults host.new ≡ H.say_faults host.old }
@@ -285,13 +315,17 @@ impl Kernel {
         ensures ready { Ready self.new.database }
         ensures meets { H.tells → Meets self.new.database (H.disk host.new).seen }
         ensures keeps { H.tells → Keeps (H.disk host.old) (H.disk host.new) }
-        ensures does { H.tells → (ws : List World) → Fits self.old.database ws → Stand no_pages Stands (H.disk host.old) ws
-            → Completes no_pages Stands (H.disk host.old) (H.disk host.new) ws (Some DbOnline) (plain result) (Fits self.new.database) }
-        ensures in_reach { H.tells → self.old.database ≡ None → IsOpenReply result → EachLeft (H.disk host.new) IsInReach }
+        ensures does { H.tells → (ws : List World) → Fits self.old.database ws
+            → Stand no_pages Stands (H.disk host.old) ws
+            → Completes no_pages Stands (H.disk host.old) (H.disk host.new) ws (Some DbOnline)
+            (plain result) (Fits self.new.database) }
+        ensures in_reach { H.tells → self.old.database ≡ None → IsOpenReply result
+            → EachLeft (H.disk host.new) IsInReach }
         ensures past_end { H.tells → result ≡ Reply.Refused Refusal.NumberEnd
             → EachLeft (H.disk host.new) (λ image. past_end_in DbOnline image ≡ true) }
         ensures later { H.faults host.old ≤ H.faults host.new }
-        ensures cause { result ≡ Reply.Refused Refusal.DeviceFailed → Rose (H.faults host.old) (H.faults host.new) }
+        ensures cause { result ≡ Reply.Refused Refusal.DeviceFailed
+            → Rose (H.faults host.old) (H.faults host.new) }
         ensures damage { H.tells → RepliesDamage (H.disk host.old).seen result }
         ensures refused { RefusalLeaves self.old.database self.new.database result }
         ensures say_faults { H.say_faults host.new ≡ H.say_faults host.old }
@@ -308,13 +342,16 @@ impl Kernel {
         ensures ready { Ready self.new.database }
         ensures meets { H.tells → Meets self.new.database (H.disk host.new).seen }
         ensures keeps { H.tells → Keeps (H.disk host.old) (H.disk host.new) }
-        ensures does { H.tells → (ws : List World) → Fits None ws → Stand no_pages Stands (H.disk host.old) ws
-            → Completes no_pages Stands (H.disk host.old) (H.disk host.new) ws (Some (opens access)) (plain result) (Fits self.new.database) }
+        ensures does { H.tells → (ws : List World) → Fits None ws
+            → Stand no_pages Stands (H.disk host.old) ws
+            → Completes no_pages Stands (H.disk host.old) (H.disk host.new) ws (Some (opens access))
+            (plain result) (Fits self.new.database) }
         ensures in_reach { H.tells → IsOpenReply result → EachLeft (H.disk host.new) IsInReach }
         ensures past_end { H.tells → result ≡ Reply.Refused Refusal.NumberEnd
             → EachLeft (H.disk host.new) (λ image. past_end_in (opens access) image ≡ true) }
         ensures later { H.faults host.old ≤ H.faults host.new }
-        ensures cause { result ≡ Reply.Refused Refusal.DeviceFailed → Rose (H.faults host.old) (H.faults host.new) }
+        ensures cause { result ≡ Reply.Refused Refusal.DeviceFailed
+            → Rose (H.faults host.old) (H.faults host.new) }
         ensures damage { H.tells → RepliesDamage (H.disk host.old).seen result }
         ensures refused { RefusalLeaves self.old.database self.new.database result }
         ensures say_faults { H.say_faults host.new ≡ H.say_faults host.old }
@@ -331,7 +368,8 @@ impl Kernel {
 
     fn go_offline(&mut self) -> Reply
         ensures off { self.new.database ≡ None }
-        ensures moves { (ws : List World) → Fits self.old.database ws → Moves ws (Some DbOffline) (plain result) (Fits self.new.database) }
+        ensures moves { (ws : List World) → Fits self.old.database ws
+            → Moves ws (Some DbOffline) (plain result) (Fits self.new.database) }
         ensures inside { IsInside result }
         ensures refused { RefusalLeaves self.old.database self.new.database result }
     {

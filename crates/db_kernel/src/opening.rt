@@ -48,12 +48,14 @@ fn refusal_of(fault: OpenFault) -> Refusal
 fn read_records<H: Host>(host: &mut H) -> Result<Found, Refusal>
     ensures found { IfOk result (λ found. H.tells → IsFound found (H.disk host.old).seen) }
     ensures start { IfOk result (λ found. IsLowStart found.start) }
-    ensures ring { IfOk result (λ found. H.tells → HasRing (ring_size found.start.pages) (H.disk host.new).seen) }
+    ensures ring { IfOk result (λ found. H.tells
+        → HasRing (ring_size found.start.pages) (H.disk host.new).seen) }
     ensures refuses { H.tells → IfErr result (RefusesInFront (H.disk host.old).seen) }
     ensures calm { H.tells → Goes (H.disk host.old) (H.disk host.new) Agree }
     ensures seen { H.tells → Agree (H.disk host.old).seen (H.disk host.new).seen }
     ensures later { H.faults host.old ≤ H.faults host.new }
-    ensures cause { result ≡ Err Refusal.DeviceFailed → Rose (H.faults host.old) (H.faults host.new) }
+    ensures cause { result ≡ Err Refusal.DeviceFailed
+        → Rose (H.faults host.old) (H.faults host.new) }
     ensures say_faults { H.say_faults host.new ≡ H.say_faults host.old }
 {
     let restart = match read_restart_record(host) {
@@ -78,14 +80,17 @@ fn read_records<H: Host>(host: &mut H) -> Result<Found, Refusal>
 fn find_records<H: Host>(host: &mut H) -> Result<Found, Refusal>
     ensures found { IfOk result (λ found. H.tells → IsFound found (H.disk host.old).seen) }
     ensures start { IfOk result (λ found. IsLowStart found.start) }
-    ensures ring { IfOk result (λ found. H.tells → HasRing (ring_size found.start.pages) (H.disk host.new).seen) }
+    ensures ring { IfOk result (λ found. H.tells
+        → HasRing (ring_size found.start.pages) (H.disk host.new).seen) }
     ensures synced { IfOk result (λ found. H.tells → SyncedUpTo device_count (H.disk host.new)) }
-    ensures past_end { result ≡ Err Refusal.NumberEnd → H.tells → SyncedUpTo device_count (H.disk host.new) }
+    ensures past_end { result ≡ Err Refusal.NumberEnd → H.tells
+        → SyncedUpTo device_count (H.disk host.new) }
     ensures refuses { H.tells → IfErr result (RefusesInFront (H.disk host.old).seen) }
     ensures calm { H.tells → Goes (H.disk host.old) (H.disk host.new) Agree }
     ensures seen { H.tells → Agree (H.disk host.old).seen (H.disk host.new).seen }
     ensures later { H.faults host.old ≤ H.faults host.new }
-    ensures cause { result ≡ Err Refusal.DeviceFailed → Rose (H.faults host.old) (H.faults host.new) }
+    ensures cause { result ≡ Err Refusal.DeviceFailed
+        → Rose (H.faults host.old) (H.faults host.new) }
     ensures say_faults { H.say_faults host.new ≡ H.say_faults host.old }
 {
     let Ok(()) = sync_devices(host) else {
@@ -104,15 +109,18 @@ pub fn open_database<H: Host>(
     ensures seen { H.tells → Agree (H.disk host.old).seen (H.disk host.new).seen }
     ensures whole { IfOk result (λ database. IsWholeLog database.ring) }
     ensures access { IfOk result (λ database. database.access ≡ access) }
-    ensures there { H.tells → IfOk result (λ database. HasRing database.ring.size (H.disk host.new).seen) }
+    ensures there { H.tells → IfOk result
+        (λ database. HasRing database.ring.size (H.disk host.new).seen) }
     ensures synced { H.tells → IfOk result (λ database. SyncedUpTo device_count (H.disk host.new)) }
-    ensures finds { H.tells → (w : World) → (stands : Stands (H.disk host.old).seen w) → OpenedIs stands.site w.history.commits result }
+    ensures finds { H.tells → (w : World) → (stands : Stands (H.disk host.old).seen w)
+        → OpenedIs stands.site w.history.commits result }
     ensures refuses { H.tells → IfErr result (Refuses (H.disk host.old).seen) }
     ensures in_reach { H.tells → OnOk result (EachLeft (H.disk host.new) IsInReach) }
     ensures past_end { H.tells → result ≡ Err Refusal.NumberEnd
         → EachLeft (H.disk host.new) (λ image. past_end_in (opens access) image ≡ true) }
     ensures later { H.faults host.old ≤ H.faults host.new }
-    ensures cause { result ≡ Err Refusal.DeviceFailed → Rose (H.faults host.old) (H.faults host.new) }
+    ensures cause { result ≡ Err Refusal.DeviceFailed
+        → Rose (H.faults host.old) (H.faults host.new) }
     ensures say_faults { H.say_faults host.new ≡ H.say_faults host.old }
 {
     let found = match find_records(host) {

@@ -54,7 +54,8 @@ pub(crate) fn read_restart_record<H: Host>(host: &mut H) -> Result<RestartRecord
     ensures calm { H.tells → Goes (H.disk host.old) (H.disk host.new) Agree }
     ensures seen { H.tells → Agree (H.disk host.old).seen (H.disk host.new).seen }
     ensures later { H.faults host.old ≤ H.faults host.new }
-    ensures cause { result ≡ Err Refusal.DeviceFailed → Rose (H.faults host.old) (H.faults host.new) }
+    ensures cause { result ≡ Err Refusal.DeviceFailed
+        → Rose (H.faults host.old) (H.faults host.new) }
     ensures say_faults { H.say_faults host.new ≡ H.say_faults host.old }
 {
     let Some(pages) = host.size(Device::Data(1)) else {
@@ -82,9 +83,12 @@ fn check_volume<H: Host>(
     requires inside { volume < length restart.now.volumes.items }
     requires before { before ≡ sum (take volume restart.now.volumes.items) }
     requires small { before ≤ 65536 }
-    ensures blocks { IfOk result (λ blocks. (blocks ≡ sum (take (volume + 1) restart.now.volumes.items)) × (blocks ≤ 65536)) }
-    ensures fits { IfOk result (λ blocks. H.tells → VolumeFits restart.now volume (H.disk host.now).seen) }
-    ensures refuses { H.tells → HasRestart (H.disk host.now).seen restart.now → IfErr result (RefusesInFront (H.disk host.now).seen) }
+    ensures blocks { IfOk result (λ blocks. (blocks
+        ≡ sum (take (volume + 1) restart.now.volumes.items)) × (blocks ≤ 65536)) }
+    ensures fits { IfOk result (λ blocks. H.tells
+        → VolumeFits restart.now volume (H.disk host.now).seen) }
+    ensures refuses { H.tells → HasRestart (H.disk host.now).seen restart.now
+        → IfErr result (RefusesInFront (H.disk host.now).seen) }
     ensures quiet { result ≡ Err Refusal.DeviceFailed → ⊥ }
 {
     let device = Device::Data(volume as u8 + 1);
@@ -102,8 +106,11 @@ fn check_volume<H: Host>(
 pub(crate) fn check_volumes<H: Host>(host: &H, restart: &RestartRecord) -> Result<u32, Refusal>
     requires keeps { Keeps restart_format restart.now }
     ensures blocks { IfOk result (λ blocks. IsAreaSize restart.now blocks) }
-    ensures fits { IfOk result (λ blocks. H.tells → (volume : ℕ) → volume < length restart.now.volumes.items → VolumeFits restart.now volume (H.disk host.now).seen) }
-    ensures refuses { H.tells → HasRestart (H.disk host.now).seen restart.now → IfErr result (RefusesInFront (H.disk host.now).seen) }
+    ensures fits { IfOk result (λ blocks. H.tells → (volume : ℕ)
+        → volume < length restart.now.volumes.items
+        → VolumeFits restart.now volume (H.disk host.now).seen) }
+    ensures refuses { H.tells → HasRestart (H.disk host.now).seen restart.now
+        → IfErr result (RefusesInFront (H.disk host.now).seen) }
     ensures quiet { result ≡ Err Refusal.DeviceFailed → ⊥ }
 {
     let mut blocks = 0;
@@ -124,12 +131,14 @@ pub(crate) fn read_log_info<H: Host>(host: &mut H) -> Result<LogInfo, Refusal>
     ensures force { IfOk result (λ info. H.tells → HasLogInfo (H.disk host.old).seen info) }
     ensures keeps { IfOk result (λ info. Keeps log_info_format info) }
     ensures pages { IfOk result (λ info. (4 ≤ info.pages) × (info.pages ≤ 65536)) }
-    ensures size { IfOk result (λ info. H.tells → size_of ((H.disk host.old).seen Log) ≡ Some (info.pages * 8192)) }
+    ensures size { IfOk result (λ info. H.tells
+        → size_of ((H.disk host.old).seen Log) ≡ Some (info.pages * 8192)) }
     ensures refuses { H.tells → IfErr result (RefusesInFront (H.disk host.old).seen) }
     ensures calm { H.tells → Goes (H.disk host.old) (H.disk host.new) Agree }
     ensures seen { H.tells → Agree (H.disk host.old).seen (H.disk host.new).seen }
     ensures later { H.faults host.old ≤ H.faults host.new }
-    ensures cause { result ≡ Err Refusal.DeviceFailed → Rose (H.faults host.old) (H.faults host.new) }
+    ensures cause { result ≡ Err Refusal.DeviceFailed
+        → Rose (H.faults host.old) (H.faults host.new) }
     ensures say_faults { H.say_faults host.new ≡ H.say_faults host.old }
 {
     let Some(pages) = host.size(Device::Log) else {
@@ -234,8 +243,10 @@ pub(crate) fn log_start(restart: &RestartRecord, info: &LogInfo) -> Result<LogSt
     requires pages { (4 ≤ info.now.pages) × (info.now.pages ≤ 65536) }
     ensures start { IfOk result (λ start. start ≡ start_of restart.now info.now) }
     ensures low { IfOk result IsLowStart }
-    ensures normal { IfOk result (λ start. (restart.now.state ≡ AreaState.Normal) × (is_past_end restart.now info.now ≡ false)) }
-    ensures refuses { (image : Image) → HasRestart image restart.now → HasLogInfo image info.now → IfErr result (RefusesInFront image) }
+    ensures normal { IfOk result (λ start. (restart.now.state ≡ AreaState.Normal)
+        × (is_past_end restart.now info.now ≡ false)) }
+    ensures refuses { (image : Image) → HasRestart image restart.now → HasLogInfo image info.now
+        → IfErr result (RefusesInFront image) }
     ensures quiet { result ≡ Err Refusal.DeviceFailed → ⊥ }
 {
     if restart.state == AreaState::RestoreOpen {

@@ -39,7 +39,8 @@ fn kept_change(alloc: Global, logged: LoggedChange<'_>) -> Result<Change, Memory
 
 // Makes the changes of a group in the rows.
 fn redo_group(alloc: Global, group: &GroupBuf, rows: &mut MemRows) -> Result<(), Memory>
-    ensures { (name : Name) (number : ℕ) (changes : List Change) → Spells group_format (record { name = name; number = number; changes = changes }) group.now
+    ensures { (name : Name) (number : ℕ) (changes : List Change)
+        → Spells group_format (record { name = name; number = number; changes = changes }) group.now
         → RedoneGroup rows.old.rows rows.new.rows changes result }
 {
     let mut changes = changes_of(group.bytes());
@@ -65,8 +66,12 @@ pub fn redo<H: Host>(
     requires ring { H.tells → HasRing ring.now.size (H.disk host.old).seen }
     ensures calm { H.tells → Goes (H.disk host.old) (H.disk host.new) Agree }
     ensures seen { H.tells → Agree (H.disk host.old).seen (H.disk host.new).seen }
-    ensures all { H.tells → (commits : List Commit) → IsLog (ring_byte ring.now.size (H.disk host.old).seen) ring.now.name start.now.position start.now.commit commits
-        → log_bytes commits < ring.now.size → ring.now.end_position ≡ start.now.position + log_bytes commits → Redone commits result }
+    ensures all { H.tells → (commits : List Commit)
+        → IsLog (ring_byte ring.now.size (H.disk host.old).seen) ring.now.name start.now.position
+        start.now.commit commits
+        → log_bytes commits < ring.now.size
+        → ring.now.end_position ≡ start.now.position + log_bytes commits
+        → Redone commits result }
     ensures later { H.faults host.old ≤ H.faults host.new }
     ensures cause { result ≡ Err OpenFault.Failed → Rose (H.faults host.old) (H.faults host.new) }
     ensures say_faults { H.say_faults host.new ≡ H.say_faults host.old }

@@ -58,7 +58,12 @@ impl Model for MemRows {
 
     ghost coded = { kept_rows_code };
 
-    ghost view = { λ a. record { rows = from_sorted (map row_entry a.rows.items); spare = vec_capacity a.rows - vec_len a.rows; faults = a.faults } };
+    ghost view = { λ a. record {
+      rows = from_sorted (map row_entry a.rows.items);
+      spare =
+          vec_capacity a.rows - vec_len a.rows;
+      faults = a.faults;
+    } };
 
     ghost invariant = { λ a. IsTrue (rises place_cmp (map row_place a.rows.items)) };
 }
@@ -87,7 +92,8 @@ fn find_row<'a>(rows: &'a [Row], table: Table, key: &[u8]) -> Option<&'a Value>
 fn put_row(rows: &mut Vec<Row>, table: Table, key: Key, value: Value)
     requires ascends { IsTrue (rises place_cmp (map row_place rows.old.items)) }
     requires room { vec_len rows.old < vec_capacity rows.old }
-    ensures rows { map row_entry rows.new.items ≡ put place_cmp (table.0, key) value (map row_entry rows.old.items) }
+    ensures rows { map row_entry rows.new.items
+        ≡ put place_cmp (table.0, key) value (map row_entry rows.old.items) }
     ensures len { vec_len rows.new ≤ vec_len rows.old + 1 }
     ensures capacity { vec_capacity rows.old ≤ vec_capacity rows.new }
 {
@@ -103,8 +109,11 @@ fn put_row(rows: &mut Vec<Row>, table: Table, key: Key, value: Value)
 // Takes the row away; false where there is none.
 fn remove_row(rows: &mut Vec<Row>, table: Table, key: &[u8]) -> bool
     requires { IsTrue (rises place_cmp (map row_place rows.old.items)) }
-    ensures found { result ≡ is_some (find place_cmp (table.0, key.now) (map row_entry rows.old.items)) }
-    ensures rows { map row_entry rows.new.items ≡ where_key place_cmp (λ place. not (eq_by_cmp place_cmp (table.0, key.now) place)) (map row_entry rows.old.items) }
+    ensures found { result ≡ is_some (find place_cmp (table.0, key.now)
+        (map row_entry rows.old.items)) }
+    ensures rows { map row_entry rows.new.items
+        ≡ where_key place_cmp (λ place. not (eq_by_cmp place_cmp (table.0, key.now) place))
+        (map row_entry rows.old.items) }
     ensures len { vec_len rows.new ≤ vec_len rows.old }
     ensures capacity { vec_capacity rows.new ≡ vec_capacity rows.old }
 {
@@ -131,7 +140,8 @@ fn first_behind(rows: &[Row], table: Table, after: &[u8]) -> usize
 // The first row of a table whose key comes after this one.
 fn row_behind<'a>(rows: &'a [Row], table: Table, after: &[u8]) -> Option<&'a Row>
     requires { IsTrue (rises place_cmp (map row_place rows.now)) }
-    ensures { option_map row_parts (option_copied result) ≡ next_row (from_sorted (map row_entry rows.now)) table.0 after.now }
+    ensures { option_map row_parts (option_copied result)
+        ≡ next_row (from_sorted (map row_entry rows.now)) table.0 after.now }
 {
     let at = first_behind(rows, table, after);
     if at < rows.len() && rows[at].table.0 == table.0 {
@@ -141,7 +151,7 @@ fn row_behind<'a>(rows: &'a [Row], table: Table, after: &[u8]) -> Option<&'a Row
     }
 }
 
-// Counts that memory was wanting. The count stands at its last value once it is there.
+// Counts that memory ran out. The count stands at its last value once it is there.
 fn rise(count: &mut u64) -> PageFault
     ensures rose { Rose count.old count.new }
     ensures later { count.old ≤ count.new }
@@ -172,7 +182,8 @@ impl MemRows {
 
     /// The first row of a table whose key comes after this one.
     pub(crate) fn next(&self, table: Table, after: &[u8]) -> Option<&Row>
-        ensures { option_map row_parts (option_copied result) ≡ next_row self.now.rows table.0 after.now }
+        ensures { option_map row_parts (option_copied result)
+            ≡ next_row self.now.rows table.0 after.now }
     {
         row_behind(&self.rows, table, after)
     }
@@ -185,7 +196,8 @@ impl MemRows {
         key: &mut KeyBuf,
         value: &mut ValueBuf,
     ) -> bool
-        ensures { IsNextRow result (next_row self.now.rows table.0 after.now) key.new.items value.new.items }
+        ensures { IsNextRow result (next_row self.now.rows table.0 after.now) key.new.items
+            value.new.items }
     {
         match self.next(table, after) {
             Some(row) => {
@@ -204,7 +216,8 @@ impl MemRows {
         self.rows.as_slice().len()
     }
 
-    /// Makes room for so many more rows. It fails only where that room and memory for it are wanting.
+    /// Makes room for so many more rows. It fails only where that room is not there and memory runs
+    /// out.
     pub fn reserve(&mut self, more: usize) -> Result<(), Memory>
         ensures rows { self.new.rows ≡ self.old.rows }
         ensures spare { self.old.spare ≤ self.new.spare }
@@ -261,7 +274,7 @@ impl Held for MemRows {
     ghost follows_on = { λ a b c f g. tt };
 }
 
-/// Only `put` can fail, where memory for the row is wanting: then the rows are as they were.
+/// Only `put` can fail, where memory runs out: then the rows are as they were.
 impl Rows for MemRows {
     fn get(&mut self, table: Table, key: &[u8], into: &mut ValueBuf) -> Result<bool, PageFault> {
         match self.value_of(table, key) {

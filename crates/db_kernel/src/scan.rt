@@ -1,18 +1,17 @@
 //! The scan of a table as a session sees it: the committed rows with its own changes.
-ghost use Rattle.std.specs.Prelude.{◌≡◌, map, IfOk, IfErr, IsTrue};
-ghost use Rattle.mdb_model.specs.Tables.{place_cmp, place_of, with_changes};
-ghost use Rattle.mdb_bytes.specs.Fields.{rises};
+ghost use Rattle.std.specs.Prelude.{◌≡◌, IsTrue};
+ghost use Rattle.mdb_model.specs.Script.{is_session};
+ghost use Rattle.mdb_model.specs.Tables.{place_of};
 ghost use Rattle.mdb_bytes.specs.Held.{next_row, IsNextRow};
-ghost use Rattle.sorted_places.specs.Search.{IsAt, IsGap};
-ghost use Rattle.db_kernel.specs.Rows.{IsBehind};
 ghost use Rattle.db_kernel.specs.Scan.{as_row, only_before};
+ghost use Rattle.db_kernel.specs.Sessions.{seen_rows};
 
 use crate::rows::MemRows;
 use mdb_model::bytes::{Key, KeyBuf, ValueBuf};
 use mdb_model::change::Change;
-use mdb_model::name::Table;
-use sorted_places::place_order;
+use mdb_model::name::{Session, Table};
 use std::cmp::Ordering;
+use transactions::Transactions;
 
 // The table of a change.
 fn table_of(change: &Change) -> Table
@@ -34,36 +33,6 @@ fn key_of(change: &Change) -> &Key
     }
 }
 
-// How the place of a change stands to another.
-fn change_order(change: &Change, table: Table, key: &[u8]) -> Ordering
-    ensures { result ≡ place_cmp (place_of change.now) (table.0, key.now) }
-{
-    match change {
-        Change::Put(own, own_key, _) => place_order(*own, own_key.bytes(), table, key),
-        Change::Del(own, own_key) => place_order(*own, own_key.bytes(), table, key),
-    }
-}
-
-// Where the change of a key stands, or where it would go.
-fn search(changes: &[Change], table: Table, key: &[u8]) -> Result<usize, usize>
-    requires { IsTrue (rises place_cmp (map place_of changes.now)) }
-    ensures found { IfOk result (IsAt place_cmp place_of changes.now (table.0, key.now)) }
-    ensures absent { IfErr result (IsGap place_cmp place_of changes.now (table.0, key.now)) }
-{
-    changes.binary_search_by(|change| change_order(change, table, key))
-}
-
-// Where the first change behind a place stands.
-fn first_behind(changes: &[Change], table: Table, after: &[u8]) -> usize
-    requires { IsTrue (rises place_cmp (map place_of changes.now)) }
-    ensures { IsBehind place_cmp place_of changes.now (table.0, after.now) result }
-{
-    match search(changes, table, after) {
-        Ok(at) => at + 1,
-        Err(at) => at,
-    }
-}
-
 // The first committed row of a table behind a key, where its own key comes before the bound; false
 // where it does not, or there is none.
 fn copy_before(
@@ -74,7 +43,8 @@ fn copy_before(
     key: &mut KeyBuf,
     value: &mut ValueBuf,
 ) -> bool
-    ensures { IsNextRow result (only_before bound.now (next_row rows.now.rows table.0 after.now)) key.new.items value.new.items }
+    ensures { IsNextRow result (only_before bound.now (next_row rows.now.rows table.0 after.now))
+        key.new.items value.new.items }
 {
     match rows.next(table, after) {
         Some(row) => match row.key.bytes().cmp(bound) {
@@ -106,18 +76,20 @@ fn copy_put(change: &Change, key: &mut KeyBuf, value: &mut ValueBuf) -> bool
 /// last change of each key. False where there is no later row. Takes no memory.
 pub(crate) fn next_seen(
     rows: &MemRows,
-    changes: &[Change],
+    transactions: &Transactions,
+    session: Session,
     table: Table,
     after: &KeyBuf,
     key: &mut KeyBuf,
     value: &mut ValueBuf,
 ) -> bool
-    requires { IsTrue (rises place_cmp (map place_of changes.now)) }
-    ensures { IsNextRow result (next_row (with_changes changes.now rows.now.rows) table.0 after.now.items) key.new.items value.new.items }
+    requires { IsTrue (is_session session.0) }
+    ensures { IsNextRow result
+        (next_row (seen_rows rows.now.rows transactions.now session.0) table.0 after.now.items)
+        key.new.items value.new.items }
 {
-    let at = first_behind(changes, table, after.as_slice());
     let mut passed: &[u8] = after.as_slice();
-    for change in &changes[at..] {
+    for (_, change) in transactions.changes_behind(session, table, after) {
         if table_of(change).0 != table.0 {
             return rows.copy_next(table, passed, key, value);
         }

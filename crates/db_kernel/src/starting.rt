@@ -11,11 +11,14 @@ ghost use Rattle.db_kernel.specs.Working.{no_pages};
 use mdb_host::Host;
 
 /// A call may start wherever each image that a crash may leave stands for one world. This world is
-/// sound, and agrees with the history that it has itself. So a call may start on any image that stands
-/// for a world: on what the creation of a database leaves, and on what a crash of an earlier call does.
+/// sound, and agrees with the history that it has itself. So a call may start on any image that
+/// stands for a world: on what the creation of a database leaves, and on what a crash of an earlier
+/// call does.
 pub fn each_image_is_a_start<H: Host>(host: &H)
-    ensures { H.tells → (w : World) → ((image : Image) → (H.disk host.now).may_leave (H.disk host.now).now image → Stands image w)
-        → CanStart no_pages (H.disk host.now).said (H.disk host.now).may_leave Stands (H.disk host.now).now ((w, own_age w) ∷ []) }
+    ensures { H.tells → (w : World) → ((image : Image)
+        → (H.disk host.now).may_leave (H.disk host.now).now image → Stands image w)
+        → CanStart no_pages (H.disk host.now).said (H.disk host.now).may_leave Stands
+        (H.disk host.now).now ((w, own_age w) ∷ []) }
 {
     let _host = host;
 }

@@ -21,8 +21,10 @@ use mdb_model::script::{Next, Reply};
 
 // Says the reply behind so many items, by one call.
 fn say_end<H: Host>(host: &mut H, items: u64, reply: &Reply) -> Result<(), Failed>
-    ensures speaks { H.tells → Speaks (H.disk host.old) (H.disk host.new) (line_of (reply_words items reply.now)) }
-    ensures said { OnOk result (H.tells → (H.disk host.new).said (H.disk host.new).now ≡ (H.disk host.old).said (H.disk host.old).now ++ line_of (reply_words items reply.now)) }
+    ensures speaks { H.tells → Speaks (H.disk host.old) (H.disk host.new)
+        (line_of (reply_words items reply.now)) }
+    ensures said { OnOk result (H.tells → (H.disk host.new).said (H.disk host.new).now
+        ≡ (H.disk host.old).said (H.disk host.old).now ++ line_of (reply_words items reply.now)) }
     ensures faults { H.faults host.new ≡ H.faults host.old }
     ensures say_cause { HasCause (H.say_faults host.old) (H.say_faults host.new) result }
 {
@@ -33,8 +35,10 @@ fn say_end<H: Host>(host: &mut H, items: u64, reply: &Reply) -> Result<(), Faile
 
 /// Says a reply by one call.
 pub fn say_reply<H: Host>(host: &mut H, reply: &Reply) -> Result<(), Failed>
-    ensures speaks { H.tells → Speaks (H.disk host.old) (H.disk host.new) (text_of (plain reply.now)) }
-    ensures said { OnOk result (H.tells → (H.disk host.new).said (H.disk host.new).now ≡ (H.disk host.old).said (H.disk host.old).now ++ text_of (plain reply.now)) }
+    ensures speaks { H.tells → Speaks (H.disk host.old) (H.disk host.new)
+        (text_of (plain reply.now)) }
+    ensures said { OnOk result (H.tells → (H.disk host.new).said (H.disk host.new).now
+        ≡ (H.disk host.old).said (H.disk host.old).now ++ text_of (plain reply.now)) }
     ensures faults { H.faults host.new ≡ H.faults host.old }
     ensures say_cause { HasCause (H.say_faults host.old) (H.say_faults host.new) result }
 {
@@ -43,8 +47,11 @@ pub fn say_reply<H: Host>(host: &mut H, reply: &Reply) -> Result<(), Failed>
 
 // Says a row of a scan by one call.
 fn say_row<H: Host>(host: &mut H, key: &KeyBuf, value: &ValueBuf) -> Result<(), Failed>
-    ensures speaks { H.tells → Speaks (H.disk host.old) (H.disk host.new) (line_of (item_words (Row key.now.items value.now.items))) }
-    ensures said { OnOk result (H.tells → (H.disk host.new).said (H.disk host.new).now ≡ (H.disk host.old).said (H.disk host.old).now ++ line_of (item_words (Row key.now.items value.now.items))) }
+    ensures speaks { H.tells → Speaks (H.disk host.old) (H.disk host.new)
+        (line_of (item_words (Row key.now.items value.now.items))) }
+    ensures said { OnOk result (H.tells → (H.disk host.new).said (H.disk host.new).now
+        ≡ (H.disk host.old).said (H.disk host.old).now
+        ++ line_of (item_words (Row key.now.items value.now.items))) }
     ensures faults { H.faults host.new ≡ H.faults host.old }
     ensures say_cause { HasCause (H.say_faults host.old) (H.say_faults host.new) result }
 {
@@ -62,10 +69,16 @@ fn say_next<H: Host>(
     after: &mut KeyBuf,
 ) -> Result<bool, Failed>
     requires session { IsTrue (is_session session.0) }
-    ensures key { IfOk result (λ more. IsNextKey more (next_row (scanned_rows kernel.now.database session) table.0 after.old.items) after.new.items) }
-    ensures speaks { H.tells → Speaks (H.disk host.old) (H.disk host.new) (text_of_row (next_row (scanned_rows kernel.now.database session) table.0 after.old.items)) }
+    ensures key { IfOk result (λ more. IsNextKey more
+        (next_row (scanned_rows kernel.now.database session) table.0 after.old.items)
+        after.new.items) }
+    ensures speaks { H.tells → Speaks (H.disk host.old) (H.disk host.new)
+        (text_of_row (next_row (scanned_rows kernel.now.database session) table.0
+        after.old.items)) }
     ensures said { OnOk result (H.tells → (H.disk host.new).said (H.disk host.new).now
-        ≡ (H.disk host.old).said (H.disk host.old).now ++ text_of_row (next_row (scanned_rows kernel.now.database session) table.0 after.old.items)) }
+        ≡ (H.disk host.old).said (H.disk host.old).now
+        ++ text_of_row (next_row (scanned_rows kernel.now.database session) table.0
+        after.old.items)) }
     ensures faults { H.faults host.new ≡ H.faults host.old }
     ensures say_cause { HasCause (H.say_faults host.old) (H.say_faults host.new) result }
 {
@@ -94,9 +107,12 @@ pub fn say_scan<H: Host>(
     ensures keeps { H.tells → Keeps (H.disk host.old) (H.disk host.new) }
     ensures seen { H.tells → Agree (H.disk host.old).seen (H.disk host.new).seen }
     ensures speaks { H.tells → HasKeys (scanned_rows kernel.now.database session)
-        → Speaks (H.disk host.old) (H.disk host.new) (text_of (scan_answer (scanned_rows kernel.now.database session) table ScanOpen)) }
+        → Speaks (H.disk host.old) (H.disk host.new)
+        (text_of (scan_answer (scanned_rows kernel.now.database session) table ScanOpen)) }
     ensures said { OnOk result (H.tells → HasKeys (scanned_rows kernel.now.database session)
-        → (H.disk host.new).said (H.disk host.new).now ≡ (H.disk host.old).said (H.disk host.old).now ++ text_of (scan_answer (scanned_rows kernel.now.database session) table ScanOpen)) }
+        → (H.disk host.new).said (H.disk host.new).now
+        ≡ (H.disk host.old).said (H.disk host.old).now
+        ++ text_of (scan_answer (scanned_rows kernel.now.database session) table ScanOpen)) }
     ensures faults { H.faults host.new ≡ H.faults host.old }
     ensures say_cause { HasCause (H.say_faults host.old) (H.say_faults host.new) result }
 {

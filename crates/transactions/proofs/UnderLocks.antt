@@ -1,7 +1,7 @@
 -- Each key that a session has changed stays locked.
 --     locked-none      where nothing is changed
 --     locked-takes, locked-change      after a lock was asked for, and a change with it
---     locked-taken, locked-ended      where a session's changes were taken, and where it ended
+--     locked-ended      where a session has ended
 use Rattle.std.proofs.Common.{◌≡◌, refl, sym, ap, ◌∙◌, subst, ℕ, zero, suc, ◌<◌, Bool, true, false, not, ◌&&◌, ◌||◌, ◌==◌, cond, is_some, List, [], ◌∷◌, Some, Result, Ok, Err, OnOk, OnErr, length, get_or, set, IsTrue, arith}
 use Rattle.std.proofs.lemmas.Bool.{eqb-true, eqb-false, eq-eqb}
 use Rattle.std.proofs.lemmas.List.{get_or-set_same, get_or-set_other}
@@ -96,12 +96,6 @@ module _ (old new : List (List Lock)) (changes : List (FinMap place_cmp Change))
           (same ∙ is ∙ one_item changes session own empty (inside other place same_session there) ∙ ap (λ k. get_or changes k empty) (sym (eqb-true other session same_session)))
           (own-changes other place same_session there))
       by_session false apart = kept other place (other-changes other place apart there)
-
-    pub locked-taken : now ≡ empty → AreLocked old (set changes session now)
-    locked-taken none other place there = by_session (other == session) refl where
-      by_session : (b : Bool) → (other == session) ≡ b → IsTrue (bars old other (ShareKey place))
-      by_session true same = no-key place (subst (λ (m : FinMap place_cmp Change). IsTrue (contains_key m place)) none (own-changes other place same there))
-      by_session false apart = locked other place (other-changes other place apart there)
 
     pub locked-ended : LetGo old new session → now ≡ empty → AreLocked new (set changes session now)
     locked-ended gone none other place there = by_session (other == session) refl where

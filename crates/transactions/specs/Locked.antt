@@ -8,5 +8,9 @@ use Rattle.mdb_model.specs.Worlds.{Lock, ShareKey}
 use Rattle.record_locks.specs.Holders.{bars}
 
 -- each key that a session has changed is one that it keeps other sessions from reading
-abbrev pub AreLocked : (locks : List (List Lock)) → (changes : List (FinMap place_cmp Change)) → Type 0
-AreLocked locks changes = (session : ℕ) (place : Place) → IsTrue (contains_key (slice_index_or changes session empty) place) → IsTrue (bars locks session (ShareKey place))
+abbrev pub AreLocked : (locks : List (List Lock)) → (changes : List (FinMap place_cmp Change))
+    → Type 0
+AreLocked locks changes =
+    (session : ℕ) (place : Place) → IsTrue
+    (contains_key (slice_index_or changes session empty) place)
+    → IsTrue (bars locks session (ShareKey place))

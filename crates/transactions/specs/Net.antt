@@ -1,11 +1,14 @@
 -- What is kept of the changes of a transaction.
 --     seen_row      the value of a row to a transaction that changed it last so, or not at all
 --     placed      a change under its place
---     AreNet, net_code      the last change of each key, within the limits of a group; how these are stored
-use Rattle.std.specs.Prelude.{ℕ, ◌≤◌, List, map, Option, Some, None, IsTrue}
+--     AreNet      the last change of each key, within the limits of a group
+--     AreKept, net_code      the last change of each key, within the limits of a group; how these
+--         are stored
+use Rattle.std.specs.Prelude.{◌≡◌, ℕ, ◌≤◌, List, map, Option, Some, None, IsTrue}
 use Rattle.std.specs.List.{list_all}
 use Rattle.std.specs.Coded.{Coded, coded×, coded_ℕ, coded_list}
 use Rattle.std.specs.FinMap as fin
+use Rattle.std.specs.Map.{values_of}
 use Rattle.mdb_model.specs.declared.change.Change.{Change}
 use Rattle.mdb_model.specs.declared.change.Change.TheVariants.{Put, Del}
 use Rattle.mdb_model.specs.contracts.change.Change.{the_row}
@@ -32,6 +35,11 @@ pub record AreNet (changes : List Change) : Type 0 where
   pub ascend : IsTrue (rises place_cmp (map place_of changes))
   pub each_fits : IsTrue (list_all change_fits changes)
   pub fit : group_bytes changes ≤ longest_group
+
+-- net changes, each under its own place
+pub record AreKept (entries : List (Place × Change)) : Type 0 where
+  pub own : entries ≡ map placed (values_of entries)
+  pub net : AreNet (values_of entries)
 
 abbrev pub net_code : Coded (fin.FinMap place_cmp Change)
 net_code = fin.code place_code the_row.coded

@@ -1,7 +1,8 @@
 -- The transactions that are under way.
 --     Ongoing      the locks and the changes of each session, and how many bytes a commit may have
 --     changes_of      the last change of each key of a session
---     Took, Changed, Ended, HandedOut      what is left where a session has one more lock, made a change, has ended, or its changes were taken
+--     Took, Changed, Ended      what is left where a session has one more lock, made a change, or
+--         has ended
 use Rattle.std.specs.Prelude.{◌≡◌, refl, ℕ, List, ◌==◌, if◌then◌else◌, slice_index_or}
 use Rattle.std.specs.Coded.{Coded, code_by, coded×, coded⊎, coded_ℕ, coded_list}
 use Rattle.std.specs.FinMap.{FinMap, empty, insert}
@@ -37,12 +38,16 @@ lock_back (ExclusiveKey p) = refl
 lock_back (ShareTable t) = refl
 
 abbrev pub lock_code : Coded Lock
-lock_code = code_by (Place ⊎ (Place ⊎ ℕ)) (coded⊎ place_code (coded⊎ place_code coded_ℕ)) lock_to lock_from lock_back
+lock_code =
+    code_by (Place ⊎ (Place ⊎ ℕ)) (coded⊎ place_code (coded⊎ place_code coded_ℕ)) lock_to lock_from
+    lock_back
 
 abbrev pub ongoing_code : Coded Ongoing
 ongoing_code =
-    code_by (List (List Lock) × (List (FinMap place_cmp Change) × ℕ)) (coded× (coded_list (coded_list lock_code)) (coded× (coded_list net_code) coded_ℕ))
-    (λ x. (x.locks, (x.changes, x.most))) (λ p. record { locks = p.0; changes = p.1.0; most = p.1.1 }) (λ _. refl)
+    code_by (List (List Lock) × (List (FinMap place_cmp Change) × ℕ))
+    (coded× (coded_list (coded_list lock_code)) (coded× (coded_list net_code) coded_ℕ))
+    (λ x. (x.locks, (x.changes, x.most)))
+    (λ p. record { locks = p.0; changes = p.1.0; most = p.1.1 }) (λ _. refl)
 
 -- the last change of each key that a session changed
 abbrev pub changes_of : Ongoing → ℕ → FinMap place_cmp Change
@@ -57,17 +62,13 @@ pub record Took (old new : Ongoing) (session : ℕ) (lock : Lock) : Type 0 where
 -- the change is the session's last one of its key, which it has locked
 pub record Changed (old new : Ongoing) (session : ℕ) (change : Change) : Type 0 where
   pub taken : HasLock old.locks new.locks session (ExclusiveKey (place_of change))
-  pub changes : (other : ℕ) → changes_of new other ≡ (if other == session then insert (changes_of old session) (place_of change) change else changes_of old other)
+  pub changes : (other : ℕ) → changes_of new other ≡ (if other == session
+      then insert (changes_of old session) (place_of change) change else changes_of old other)
   pub most : new.most ≡ old.most
 
 -- the session has no locks and no changes any more
 pub record Ended (old new : Ongoing) (session : ℕ) : Type 0 where
   pub locks : LetGo old.locks new.locks session
-  pub changes : (other : ℕ) → changes_of new other ≡ (if other == session then empty else changes_of old other)
-  pub most : new.most ≡ old.most
-
--- the session has its locks still, and no changes
-pub record HandedOut (old new : Ongoing) (session : ℕ) : Type 0 where
-  pub locks : new.locks ≡ old.locks
-  pub changes : (other : ℕ) → changes_of new other ≡ (if other == session then empty else changes_of old other)
+  pub changes : (other : ℕ) → changes_of new other ≡ (if other == session then empty
+      else changes_of old other)
   pub most : new.most ≡ old.most

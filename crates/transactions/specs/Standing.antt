@@ -10,5 +10,6 @@ use Rattle.transactions.specs.Ongoing.{Ongoing, changes_of}
 -- the locks bar the same, and each session's net changes are the same
 pub record StandsFor (x : Ongoing) (w : World) : Type 0 where
   pub locks : Agrees x.locks w
-  pub changes : (session : ℕ) → IsTrue (is_session session) → changes_of x session ≡ last_changes (transaction w session).changes
+  pub changes : (session : ℕ) → IsTrue (is_session session)
+      → changes_of x session ≡ last_changes (transaction w session).changes
   pub numbered : AreNumbered w

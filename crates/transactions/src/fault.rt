@@ -16,8 +16,8 @@ pub enum TxFault {
     /// A commit of the session's changes would have so many bytes.
     #[error("a commit would have {0} bytes")]
     TooLarge(u64),
-    /// Memory was wanting.
-    #[error("memory was wanting")]
+    /// Out of memory.
+    #[error("out of memory")]
     Memory,
     /// The blocks of the data area do not suffice.
     #[error("the data area is full")]

@@ -1,5 +1,5 @@
 //! The transactions of all sessions.
-ghost use Rattle.std.specs.Prelude.{◌≡◌, ℕ, ◌<◌, ◌≤◌, Bool, true, false, None, Some, length, IfOk, IfErr, OnOk, IsTrue, is_some, map, Err};
+ghost use Rattle.std.specs.Prelude.{◌≡◌, ℕ, ◌<◌, ◌≤◌, Bool, true, false, None, Some, length, IfOk, IfErr, OnOk, IsTrue, is_some, map, drop, Err};
 ghost use Rattle.std.specs.List.{list_all};
 ghost use Rattle.std.specs.FinMap.{empty, get, insert, len, values};
 ghost use Rattle.mdb_model.specs.declared.change.Change.TheVariants.{Put, Del};
@@ -10,21 +10,24 @@ ghost use Rattle.mdb_model.specs.Sessions.{group_bytes};
 ghost use Rattle.mdb_bytes.specs.Fields.{rises};
 ghost use Rattle.mdb_bytes.specs.Groups.{change_fits, longest_group};
 ghost use Rattle.mdb_bytes.specs.Held.{IsRow, HasPageCause};
+ghost use Rattle.sorted_places.specs.Search.{IsPast};
 ghost use Rattle.record_locks.specs.Holders.{bars, holder_in};
-ghost use Rattle.transactions.specs.Net.{seen_row};
-ghost use Rattle.transactions.specs.Ongoing.{changes_of, Ended, HandedOut};
+ghost use Rattle.transactions.specs.Net.{placed, seen_row};
+ghost use Rattle.transactions.specs.Ongoing.{changes_of, Ended};
 ghost use Rattle.transactions.specs.Calls.{TakesLock, PutDoes, DelDoes, UnlessPage, HasTxCause, bytes_with};
 
 use crate::fault::{TxFault, from_lock};
+use crate::place::ChangePlace;
 use crate::transaction::OpenTransaction;
 use mdb_bytes::Rows;
-use mdb_model::bytes::{Key, Value, ValueBuf};
+use mdb_model::bytes::{Key, KeyBuf, Value, ValueBuf};
 use mdb_model::change::Change;
 use mdb_model::fault::{Memory, PageFault};
 use mdb_model::name::{Session, Table};
 use record_locks::Locks;
 use std::alloc::Global;
 use std::array;
+use std::collections::btree_map::Range;
 use std::marker::Model;
 
 /// What the sessions 1 to 64 have locked and changed.
@@ -49,7 +52,11 @@ impl Model for Transactions {
 
     ghost view = { λ a. record { locks = a.locks; changes = a.sessions; most = a.most } };
 
-    ghost invariant = { λ a. record { small : a.most ≤ longest_group; locked : AreLocked a.locks a.sessions } };
+    ghost invariant = { λ a. record {
+      small : a.most
+          ≤ longest_group;
+      locked : AreLocked a.locks a.sessions;
+    } };
 }
 
 // The value of a row, as the session with these changes sees it.
@@ -62,14 +69,18 @@ fn read_row<R: Rows>(
 ) -> Result<bool, PageFault>
     requires table { IsTrue (is_table table.0) }
     requires key { IsTrue (is_key key.now) }
-    ensures found { R.is_known rows.old → IfOk result (λ found. IsRow found (seen_row (get own.now (table.0, key.now)) (get (R.held rows.old).rows (table.0, key.now))) into.new.items) }
-    ensures same { R.is_known rows.old → OnOk result (R.is_known rows.new × (R.held rows.new ≡ R.held rows.old)) }
+    ensures found { R.is_known rows.old → IfOk result
+        (λ found. IsRow found (seen_row (get own.now (table.0, key.now))
+        (get (R.held rows.old).rows (table.0, key.now))) into.new.items) }
+    ensures same { R.is_known rows.old → OnOk result (R.is_known rows.new
+        × (R.held rows.new ≡ R.held rows.old)) }
     ensures spare { R.spare rows.old ≤ R.spare rows.new }
-    ensures cause { HasPageCause (R.is_known rows.old) (R.faults rows.old) (R.faults rows.new) result }
+    ensures cause { HasPageCause (R.is_known rows.old) (R.faults rows.old) (R.faults rows.new)
+        result }
     ensures quiet { IfErr result (λ fault. fault ≡ PageFault.Failed → R.reads_devices rows.old) }
     ensures follows { R.follows rows.old rows.new }
 {
-    match own.get(table, key.bytes()) {
+    match own.get(table, key) {
         Some(Change::Put(_, _, value)) => {
             *into = value.to_buf();
             Ok(true)
@@ -128,10 +139,13 @@ impl Transactions {
         ensures locks { TakesLock self.old self.new s.0 (ShareKey (t.0, key.now)) result }
         ensures found { R.is_known rows.old → IfOk result (λ found.
             IsRow found (seen_row (get (changes_of self.old s.0) (t.0, key.now)) (get (R.held rows.old).rows (t.0, key.now))) into.new.items) }
-        ensures same { R.is_known rows.old → UnlessPage result (R.is_known rows.new × (R.held rows.new ≡ R.held rows.old)) }
+        ensures same { R.is_known rows.old
+            → UnlessPage result (R.is_known rows.new × (R.held rows.new ≡ R.held rows.old)) }
         ensures spare { R.spare rows.old ≤ R.spare rows.new }
-        ensures cause { HasTxCause (R.is_known rows.old) (R.faults rows.old) (R.faults rows.new) result }
-        ensures quiet { IfErr result (λ fault. fault ≡ TxFault.Page PageFault.Failed → R.reads_devices rows.old) }
+        ensures cause { HasTxCause (R.is_known rows.old) (R.faults rows.old) (R.faults rows.new)
+            result }
+        ensures quiet { IfErr result (λ fault. fault ≡ TxFault.Page PageFault.Failed
+            → R.reads_devices rows.old) }
         ensures follows { R.follows rows.old rows.new }
     {
         match self.locks.share_key(s, t, key) {
@@ -201,12 +215,18 @@ impl Transactions {
     ) -> Result<bool, TxFault>
         requires session { IsTrue (is_session s.0) }
         requires limits { IsTrue (change_fits (Del t key.now)) }
-        ensures does { (visible : Bool) × DelDoes self.old self.new s.0 (Del t key.now) fits visible result
-            × (R.is_known rows.old → visible ≡ is_some (seen_row (get (changes_of self.old s.0) (t.0, key.now)) (get (R.held rows.old).rows (t.0, key.now)))) }
-        ensures same { R.is_known rows.old → UnlessPage result (R.is_known rows.new × (R.held rows.new ≡ R.held rows.old)) }
+        ensures does { (visible : Bool) × DelDoes self.old self.new s.0 (Del t key.now) fits visible
+            result
+            × (R.is_known rows.old → visible
+            ≡ is_some (seen_row (get (changes_of self.old s.0) (t.0, key.now))
+            (get (R.held rows.old).rows (t.0, key.now)))) }
+        ensures same { R.is_known rows.old
+            → UnlessPage result (R.is_known rows.new × (R.held rows.new ≡ R.held rows.old)) }
         ensures spare { R.spare rows.old ≤ R.spare rows.new }
-        ensures cause { HasTxCause (R.is_known rows.old) (R.faults rows.old) (R.faults rows.new) result }
-        ensures quiet { IfErr result (λ fault. fault ≡ TxFault.Page PageFault.Failed → R.reads_devices rows.old) }
+        ensures cause { HasTxCause (R.is_known rows.old) (R.faults rows.old) (R.faults rows.new)
+            result }
+        ensures quiet { IfErr result (λ fault. fault ≡ TxFault.Page PageFault.Failed
+            → R.reads_devices rows.old) }
         ensures follows { R.follows rows.old rows.new }
     {
         if let Some(holder) = self.locks.holder(s, t, Some(key), true) {
@@ -289,33 +309,56 @@ impl Transactions {
         }
     }
 
-    /// The last change of each key of the session, by table and key, as a commit group has them.
-    pub fn changes(&self, s: Session) -> &[Change]
-        requires session { IsTrue (is_session s.0) }
-        ensures value { result.now ≡ values (changes_of self.now s.0) }
-        ensures ascend { IsTrue (rises place_cmp (map place_of result.now)) }
-        ensures each_fits { IsTrue (list_all change_fits result.now) }
-        ensures fit { group_bytes result.now ≤ longest_group }
-    {
-        self.sessions[s.0 as usize].changes()
-    }
-
     /// How many keys the session has changed.
     pub fn changed(&self, s: Session) -> u32
         requires session { IsTrue (is_session s.0) }
-        ensures { result ≡ len (changes_of self.now s.0) }
+        ensures count { result ≡ len (changes_of self.now s.0) }
+        ensures each_fits { IsTrue (list_all change_fits (values (changes_of self.now s.0))) }
     {
-        self.sessions[s.0 as usize].changes().len() as u32
+        self.sessions[s.0 as usize].len()
     }
 
-    /// Hands out the session's changes, in the order of a commit group, to be made in the rows. Its
-    /// locks stay. It takes no memory.
-    pub fn take_changes(&mut self, s: Session) -> Vec<Change>
+    /// The last changes of the session behind a place, by table and key.
+    pub fn changes_behind(
+        &self,
+        s: Session,
+        t: Table,
+        after: &KeyBuf,
+    ) -> Range<'_, ChangePlace, Change>
         requires session { IsTrue (is_session s.0) }
-        ensures value { result.items ≡ values (changes_of self.old s.0) }
-        ensures handed_out { HandedOut self.old self.new s.0 }
+        ensures behind { (at : ℕ)
+            × IsPast place_of (values (changes_of self.now s.0)) t.0 after.now.items at
+            × (result ≡ drop at (map placed (values (changes_of self.now s.0)))) }
+        ensures ascend { let changes = values (changes_of self.now s.0) in
+            IsTrue (rises place_cmp (map place_of changes)) }
     {
-        self.sessions[s.0 as usize].take(self.alloc)
+        self.sessions[s.0 as usize].behind(t, after)
+    }
+
+    /// The last change of each key of the session, by table and key, as a commit group has them.
+    /// The session has them still. They stand in room that was reserved as they were made: where
+    /// they are not committed, `give_back` returns it. It fails only where no more can be counted
+    /// that share a key or a value.
+    pub fn listed(&mut self, s: Session) -> Result<Vec<Change>, Memory>
+        requires session { IsTrue (is_session s.0) }
+        ensures same { self.new ≡ self.old }
+        ensures value { IfOk result (λ changes.
+            changes.items ≡ values (changes_of self.old s.0)) }
+        ensures ascend { IfOk result (λ changes.
+            IsTrue (rises place_cmp (map place_of changes.items))) }
+        ensures each_fits { IfOk result (λ changes.
+            IsTrue (list_all change_fits changes.items)) }
+        ensures fit { IfOk result (λ changes. group_bytes changes.items ≤ longest_group) }
+    {
+        self.sessions[s.0 as usize].listed(self.alloc)
+    }
+
+    /// Takes back the room of changes that were listed and are not committed.
+    pub fn give_back(&mut self, s: Session, listed: Vec<Change>)
+        requires session { IsTrue (is_session s.0) }
+        ensures { self.new ≡ self.old }
+    {
+        self.sessions[s.0 as usize].give_back(listed);
     }
 
     /// Ends the session's transaction without its changes. Where it has none, nothing changes.

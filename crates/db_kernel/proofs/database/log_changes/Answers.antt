@@ -1,5 +1,4 @@
-use Rattle.std.proofs.Common.{◌≡◌, ap, subst, ℕ, ◌+◌, ◌-◌, length, OnOk, arith}
-use Rattle.mdb_model.specs.declared.name.Name.{Name}
+use Rattle.std.proofs.Common.{◌≡◌, subst, ℕ, ◌+◌, ◌-◌, length, OnOk, arith}
 use Rattle.mdb_model.specs.Sessions.{group_bytes}
 use Rattle.redo_ring.specs.Calls.{AppendAnswer}
 use Rattle.mdb_bytes.proofs.ChangeRuns.{group_long}

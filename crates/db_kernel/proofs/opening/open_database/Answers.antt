@@ -1,11 +1,5 @@
-use Rattle.std.proofs.Common.{◌≡◌, ◌∙◌, ◌+◌, ◌-◌, ◌*◌, refl, sym, subst, ap, min, Err, arith}
-use Rattle.mdb_model.specs.declared.name.Name.{Name}
-use Rattle.mdb_model.specs.Images.{Image}
-use Rattle.mdb_host.proofs.Moments.{same_image}
-use Rattle.mdb_bytes.specs.LogReading.{IsLog}
-use Rattle.mdb_bytes.specs.Rings.{ring_byte}
+use Rattle.std.proofs.Common.{◌≡◌, ◌∙◌, subst, ap, Err, arith}
 use Rattle.redo_ring.specs.declared.open.LogStart.{LogStart}
-use Rattle.redo_ring.specs.Opening.{ring_size}
 use Rattle.redo_ring.proofs.Places.{agree_on}
 use Rattle.creation.specs.Devices.{device_count}
 use Rattle.db_kernel.proofs.Opened.{found_start, found_blocks, records_whole, in_front, first_whole, ring_found, ring_refused, redo_refused, ring_refuses, redo_refuses, log_in_ring, log_opened, made_found}

@@ -1,4 +1,4 @@
-use Rattle.std.proofs.Common.{◌∙◌, sym, subst, ap}
+use Rattle.std.proofs.Common.{◌∙◌, sym, subst}
 use Rattle.mdb_model.specs.Images.{Image}
 use Rattle.mdb_host.proofs.Moments.{same_image}
 use Rattle.redo_ring.proofs.Places.{agree_on}

@@ -1,4 +1,4 @@
-use Rattle.std.proofs.Common.{◌≡◌, ◌≢◌, ◌∙◌, sym, subst, ap, ℕ, ◌+◌, ◌<◌, ◌≤◌, List, length, get_or, sum, take, Option, Some, inl, inr, arith}
+use Rattle.std.proofs.Common.{◌≡◌, ◌∙◌, sym, subst, ap, ℕ, List, get_or, arith}
 use Rattle.mdb_model.specs.declared.script.Refusal.{Refusal}
 use Rattle.db_kernel.specs.Damages.{RefusesInFront}
 use Rattle.db_kernel.proofs.Volumes.{other_size, too_small, too_many}

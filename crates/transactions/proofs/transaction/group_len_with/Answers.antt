@@ -1,25 +1,46 @@
-use Rattle.std.proofs.Common.{◌≡◌, sym, ap, ◌∙◌, subst, map, arith}
-use Rattle.std.specs.FinMap.{put}
-use Rattle.std.proofs.lemmas.List.Sums.{get_or-le-sum_by}
-use Rattle.mdb_model.specs.Tables.{Place, place_cmp, place_of}
-use Rattle.mdb_model.specs.Sessions.{change_bytes, group_bytes}
-use Rattle.sorted_places.specs.Search.{IsAt, IsGap}
-use Rattle.transactions.specs.Net.{placed}
-use Rattle.transactions.proofs.NetLists.{with_put, group-replaced, group-added}
+use Rattle.std.proofs.Common.{◌≡◌, sym, ap, Option, unwrap_or, option_map, arith}
+use Rattle.std.specs.FinMap.{find}
+use Rattle.mdb_bytes.specs.Groups.{change_fits}
+use Rattle.mdb_model.specs.declared.change.Change.{Change}
+use Rattle.mdb_model.specs.Tables.{place_cmp}
+use Rattle.mdb_model.specs.Sessions.{change_bytes}
+use Rattle.transactions.proofs.NetLists.{found_fits, found_within, group-with}
 use Rattle.transactions.proofs.transaction.group_len_with.Goals as goal
 
-pub returns-in-Ok : goal.returns-in-Ok
-returns-in-Ok c = λ change place size.
-    let total = group-replaced c.args.changes.now change c.index-changes-at.result c.in-Ok.at (subst (λ (p : Place). IsAt place_cmp place_of c.args.changes.now p c.in-Ok.at) (sym place) c.in-Ok.ensures.found) in
-    let replaced = c.change_len.ensures ∙ ap change_bytes c.index-changes-at.is in
-    let within = get_or-le-sum_by change_bytes c.args.changes.now c.in-Ok.at c.index-changes-at.result c.in-Ok.ensures.found.in_range in
-    let same : group_bytes (with_put c.args.changes.now change) ≡ group_bytes (map (λ e. e.1) (put place_cmp (c.args.table.0, c.args.key.now) change (map placed c.args.changes.now))) =
-    ap (λ (p : Place). group_bytes (map (λ e. e.1) (put place_cmp p change (map placed c.args.changes.now)))) place in
-    omega (arith, total, replaced, within, same, size, c.requires.counted)
+pub change_len-requires : goal.change_len-requires
+change_len-requires c =
+    found_fits (c.args.table.0, c.args.key.now) c.in-Some.change.now change_fits c.args.changes.now.entries
+    (sym c.in-Some.ensures) c.requires.kept.net.each_fits
 
-pub returns-in-Err : goal.returns-in-Err
-returns-in-Err c = λ change place size.
-    let total = group-added c.args.changes.now change c.in-Err.field-0 (subst (λ (p : Place). IsGap place_cmp place_of c.args.changes.now p c.in-Err.field-0) (sym place) c.in-Err.ensures.absent) in
-    let same : group_bytes (with_put c.args.changes.now change) ≡ group_bytes (map (λ e. e.1) (put place_cmp (c.args.table.0, c.args.key.now) change (map placed c.args.changes.now))) =
-    ap (λ (p : Place). group_bytes (map (λ e. e.1) (put place_cmp p change (map placed c.args.changes.now)))) place in
-    omega (arith, total, same, size, c.requires.counted)
+pub overflow_sub-result : goal.overflow_sub-result
+overflow_sub-result c =
+    omega (
+      arith,
+      c.change_len.ensures,
+      c.requires.counted,
+      found_within
+          (c.args.table.0, c.args.key.now) c.in-Some.change.now c.args.changes.now.entries
+          (sym c.in-Some.ensures),
+    )
+
+pub returns-in-Some : goal.returns-in-Some
+returns-in-Some c = λ change place size.
+    let within = found_within
+    (c.args.table.0, c.args.key.now) c.in-Some.change.now c.args.changes.now.entries
+    (sym c.in-Some.ensures) in
+    let sum = group-with c.args.changes.now.entries c.requires.kept
+    (c.args.table.0, c.args.key.now) change in
+    let weight : unwrap_or (option_map change_bytes (find place_cmp
+    (c.args.table.0, c.args.key.now) c.args.changes.now.entries)) 0
+    ≡ change_bytes c.in-Some.change.now =
+    ap (λ (o : Option Change). unwrap_or (option_map change_bytes o) 0) (sym c.in-Some.ensures) in
+    omega (arith, c.change_len.ensures, c.requires.counted, within, sum, weight, size)
+
+pub returns-in-None : goal.returns-in-None
+returns-in-None c = λ change place size.
+    let sum = group-with c.args.changes.now.entries c.requires.kept
+    (c.args.table.0, c.args.key.now) change in
+    let weight : unwrap_or (option_map change_bytes (find place_cmp
+    (c.args.table.0, c.args.key.now) c.args.changes.now.entries)) 0 ≡ 0 =
+    ap (λ (o : Option Change). unwrap_or (option_map change_bytes o) 0) (sym c.in-None.ensures) in
+    omega (arith, c.requires.counted, sum, weight, size)

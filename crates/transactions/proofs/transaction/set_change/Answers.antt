@@ -1,17 +1,15 @@
-use Rattle.std.proofs.Common.{sym, subst, arith}
-use Rattle.mdb_model.specs.Tables.{Place, place_cmp, place_of}
-use Rattle.sorted_places.specs.Search.{IsAt, IsGap}
-use Rattle.sorted_places.proofs.Places.{place_total, place_exact}
-use Rattle.sorted_places.proofs.Sorted.{put-at, put-gap}
+use Rattle.std.proofs.Common.{◌≡◌, ◌∙◌, rules}
+use Rattle.std.specs.BTreeMap.{is_at}
+use Rattle.mdb_model.specs.Tables.{place_cmp}
+use Rattle.transactions.proofs.NetLists.{remove_absent}
 use Rattle.transactions.proofs.transaction.set_change.Goals as goal
 
-pub returns-in-Ok : goal.returns-in-Ok
-returns-in-Ok c =
-    put-at place_cmp place_of (λ change. change) place_total place_exact c.args.changes.now.items c.args.change c.in-Ok.at
-    (subst (λ (p : Place). IsAt place_cmp place_of c.args.changes.now.items p c.in-Ok.at) (sym c.requires.place) (rw (← c.deref.ensures.value) c.in-Ok.ensures.found))
-
-pub returns-in-Err : goal.returns-in-Err
-returns-in-Err c =
-    let gap = put-gap place_cmp place_of (λ change. change) place_total c.args.changes.now.items c.args.change c.in-Err.at
-    (subst (λ (p : Place). IsGap place_cmp place_of c.args.changes.now.items p c.in-Err.at) (sym c.requires.place) (rw (← c.deref.ensures.value) c.in-Err.ensures.absent)) in
-    grind (arith, gap, c.insert.ensures.items, c.insert.ensures.succeeds c.requires.room)
+-- the change that was added goes again
+pub returns-then-is_err-2-clause-err : goal.returns-then-is_err-2-clause-err
+returns-then-is_err-2-clause-err c =
+    let removal = rw c.in-Vacant.is at c.in-Ok.ensures.removal in
+    let found = rw c.in-Vacant.is at c.in-Ok.ensures.found in
+    let entries : c.remove.new.self.0.entries ≡ c.args.changes.now.entries =
+    c.remove.ensures.removed ∙ c.insert_entry-added.ensures.5 ∙ removal.1
+    ∙ remove_absent (is_at (place_cmp c.new.result)) c.args.changes.now.entries found in
+    search rules

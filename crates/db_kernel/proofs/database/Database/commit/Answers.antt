@@ -1,4 +1,4 @@
-use Rattle.std.proofs.Common.{refl, sym, subst, Some}
+use Rattle.std.proofs.Common.{refl, subst, Some}
 use Rattle.mdb_model.specs.declared.name.State.TheVariants.{Admin as AdminState}
 use Rattle.mdb_model.specs.declared.script.Command.TheVariants.{CommitWork}
 use Rattle.mdb_model.specs.declared.script.Refusal.TheVariants.{WrongState}

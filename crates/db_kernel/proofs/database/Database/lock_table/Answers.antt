@@ -1,9 +1,7 @@
-use Rattle.std.proofs.Common.{sym, subst, refl, ap, List, IsTrue, Some, length, arith}
-use Rattle.std.specs.List.{list_all}
+use Rattle.std.proofs.Common.{◌∙◌, sym, subst, refl, Some, arith}
 use Rattle.std.specs.FinMap.{FinMap, values}
 use Rattle.mdb_model.specs.declared.change.Change.{Change}
 use Rattle.mdb_model.specs.Tables.{place_cmp, with_changes}
-use Rattle.mdb_bytes.specs.Groups.{change_fits}
 use Rattle.transactions.specs.Ongoing.{changes_of}
 use Rattle.db_kernel.proofs.Keys.{keys_after}
 use Rattle.mdb_model.specs.declared.script.Command.TheVariants.{ScanTable}
@@ -13,7 +11,7 @@ use Rattle.db_kernel.specs.Sessions.{HasKeys, IsOpen, scan_answer, seen_rows}
 use Rattle.db_kernel.specs.Working.{Moves}
 use Rattle.db_kernel.specs.Kept.{made_of}
 use Rattle.db_kernel.proofs.Moving.{none_met, scan_inside, scan_moves}
-use Rattle.db_kernel.proofs.Counting.{few_rows, changes_kept}
+use Rattle.db_kernel.proofs.Counting.{few_rows, changes_kept, length_values}
 use Rattle.db_kernel.proofs.database.Database.lock_table.Goals as goal
 
 pub returns-clause-moves : goal.returns-clause-moves
@@ -27,7 +25,7 @@ pub returns-clause-few : goal.returns-clause-few
 returns-clause-few c =
     let d = c.args.self.now in
     few_rows d.rows.rows d.transactions c.scan.new.self c.args.session c.args.table c.scan.result c.scan.ensures.locks (none_met c.scan.result c.scan.ensures.no_page) c.len.result c.len.ensures.len c.len.ensures.few
-    (length c.changes.result.now) (ap length c.changes.ensures.value) (omega (arith, c.changes.type_inv.1))
+    c.changed.result (c.changed.ensures.count ∙ sym (length_values (changes_of d.transactions c.args.session.0))) (omega (arith, c.changed.type_inv))
 
 pub returns-clause-inside : goal.returns-clause-inside
 returns-clause-inside c =
@@ -38,4 +36,4 @@ returns-clause-keyed c ws at =
     let d = c.args.self.now in
     let same = changes_kept d.transactions c.scan.new.self c.args.session c.args.table c.scan.result c.scan.ensures.locks (none_met c.scan.result c.scan.ensures.no_page) in
     subst (λ (net : FinMap place_cmp Change). HasKeys (with_changes (values net) d.rows.rows)) (sym same)
-    (keys_after (values (changes_of d.transactions c.args.session.0)) d.rows.rows (subst (λ (cs : List Change). IsTrue (list_all change_fits cs)) c.changes.ensures.value c.changes.ensures.each_fits) at.keys)
+    (keys_after (values (changes_of d.transactions c.args.session.0)) d.rows.rows c.changed.ensures.each_fits at.keys)

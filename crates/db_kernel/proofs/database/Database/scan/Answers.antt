@@ -1,14 +1,11 @@
-use Rattle.std.proofs.Common.{◌≡◌, ◌∙◌, refl, sym, subst, ap, ◌+◌, ◌<◌, List, Some, IsTrue, length, arith}
-use Rattle.std.specs.List.{list_all}
+use Rattle.std.proofs.Common.{◌∙◌, refl, sym, subst, Some, arith}
 use Rattle.std.specs.FinMap.{values}
-use Rattle.mdb_model.specs.declared.change.Change.{Change}
 use Rattle.mdb_model.specs.declared.script.Command.TheVariants.{ScanTable}
-use Rattle.mdb_bytes.specs.Groups.{change_fits}
 use Rattle.transactions.specs.Ongoing.{changes_of}
 use Rattle.db_kernel.specs.declared.database.Access.{Access}
 use Rattle.db_kernel.specs.Kept.{IsIn}
 use Rattle.db_kernel.specs.Sessions.{scan_answer, seen_rows}
-use Rattle.db_kernel.proofs.Counting.{few_seen}
+use Rattle.db_kernel.proofs.Counting.{few_seen, length_values}
 use Rattle.db_kernel.proofs.Keys.{keys_after}
 use Rattle.db_kernel.proofs.Kernels.{kernel_admin, kernel_online, keys_in}
 use Rattle.db_kernel.proofs.database.Database.scan.Goals as goal
@@ -19,12 +16,12 @@ returns-in-Admin-clause-moves c ws fit = kernel_admin c.args.self.now c.in-Admin
 pub returns-in-Admin-clause-keyed : goal.returns-in-Admin-clause-keyed
 returns-in-Admin-clause-keyed c ws fit =
     let d = c.args.self.now in
-    keys_after (values (changes_of d.transactions c.args.session.0)) d.rows.rows (subst (λ (cs : List Change). IsTrue (list_all change_fits cs)) c.changes.ensures.value c.changes.ensures.each_fits) (keys_in d.access d ws fit.at)
+    keys_after (values (changes_of d.transactions c.args.session.0)) d.rows.rows c.changed.ensures.each_fits (keys_in d.access d ws fit.at)
 
 pub returns-in-Admin-clause-few : goal.returns-in-Admin-clause-few
 returns-in-Admin-clause-few c =
     let d = c.args.self.now in
-    few_seen d.rows.rows d.transactions c.args.session c.args.table c.len.result c.len.ensures.len c.len.ensures.few (length c.changes.result.now) (ap length c.changes.ensures.value) (omega (arith, c.changes.type_inv.1))
+    few_seen d.rows.rows d.transactions c.args.session c.args.table c.len.result c.len.ensures.len c.len.ensures.few c.changed.result (c.changed.ensures.count ∙ sym (length_values (changes_of d.transactions c.args.session.0))) (omega (arith, c.changed.type_inv))
 
 pub returns-in-Online-clause-moves : goal.returns-in-Online-clause-moves
 returns-in-Online-clause-moves c ws fit =

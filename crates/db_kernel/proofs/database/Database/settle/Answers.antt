@@ -5,4 +5,10 @@ use Rattle.db_kernel.proofs.database.Database.settle.Goals as goal
 
 pub apply_all-requires : goal.apply_all-requires
 apply_all-requires c =
-    omega (arith, c.requires.room, ap length c.take_changes-changes.ensures.value, length_values (changes_of c.args.self.now.transactions c.args.session.0))
+    omega (
+      arith,
+      c.requires.room,
+      ap length c.requires.listed,
+      length_values
+          (changes_of c.args.self.now.transactions c.args.session.0),
+    )

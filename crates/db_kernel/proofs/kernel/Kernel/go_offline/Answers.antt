@@ -1,4 +1,4 @@
-use Rattle.std.proofs.Common.{refl, sym, ap, ◌≡◌, ◌∙◌, Bool, true, false, not, is_some, None}
+use Rattle.std.proofs.Common.{refl}
 use Rattle.mdb_model.specs.declared.name.State.TheVariants.{Offline}
 use Rattle.mdb_model.specs.declared.script.Command.TheVariants.{DbOffline}
 use Rattle.db_kernel.proofs.Kernels.{kernel_refuses, kernel_closed, state_none}

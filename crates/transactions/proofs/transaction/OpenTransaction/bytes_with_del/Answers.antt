@@ -1,19 +1,18 @@
-use Rattle.std.proofs.Common.{◌≡◌, sym, ap, ◌∙◌, length, map, arith}
-use Rattle.std.specs.FinMap.{FinMap, values, insert, put}
+use Rattle.std.proofs.Common.{◌≡◌, refl, ap, ◌∙◌, length, arith}
+use Rattle.std.specs.FinMap.{put}
 use Rattle.mdb_model.specs.declared.change.Change.{Change}
 use Rattle.mdb_model.specs.declared.change.Change.TheVariants.{Del}
 use Rattle.mdb_model.specs.Tables.{place_cmp, place_of}
 use Rattle.mdb_model.specs.Sessions.{change_bytes, group_bytes}
-use Rattle.transactions.specs.Net.{placed}
-use Rattle.transactions.proofs.NetLists.{values-put}
+use Rattle.transactions.proofs.NetLists.{put-values}
 use Rattle.transactions.proofs.transaction.OpenTransaction.bytes_with_del.Goals as goal
 
 pub returns : goal.returns
 returns c =
     let change : Change = Del c.args.table c.args.key.now in
+    let es = c.self.inside.changes.entries in
     let long = ap length c.bytes.ensures in
-    let place : place_of change ≡ (c.args.table.0, c.bytes-2.result.now) = (λ i. (c.args.table.0, sym c.bytes-2.ensures i)) in
     let size : change_bytes change ≡ c.entry_len-added.result = omega (arith, long, c.entry_len-added.ensures) in
-    c.group_len_with.ensures change place size
-    ∙ (λ i. group_bytes (map (λ e. e.1) (put place_cmp (c.args.table.0, c.bytes-2.ensures i) change (map placed (c.deref.ensures.value i)))))
-    ∙ ap group_bytes (values-put c.self.inside.changes.items c.self.invariant.net.ascend change ∙ ap (λ (m : FinMap place_cmp Change). values (insert m (place_of change) change)) c.self.view_is)
+    c.group_len_with.ensures change refl size
+    ∙ ap group_bytes (put-values es (put place_cmp
+    (place_of change) change es) c.self.invariant.kept change refl c.args.self.now c.self.view_is)

@@ -1,5 +1,6 @@
-use Rattle.std.proofs.Common.{sym, ap, ◌∙◌, map}
+use Rattle.std.proofs.Common.{sym, ap, ◌∙◌, List, map}
 use Rattle.std.specs.FinMap.{FinMap, get, find, get-from_sorted}
+use Rattle.std.specs.Map.{values_of}
 use Rattle.mdb_model.specs.declared.change.Change.{Change}
 use Rattle.mdb_model.specs.Tables.{Place, place_cmp, place_of}
 use Rattle.transactions.specs.Net.{placed}
@@ -9,7 +10,9 @@ use Rattle.transactions.proofs.transaction.OpenTransaction.get.Goals as goal
 pub returns : goal.returns
 returns c =
     let place : Place = (c.args.table.0, c.args.key.now) in
-    let items = c.self.inside.changes.items in
-    c.find_change.ensures ∙ ap (λ cs. find place_cmp place (map placed cs)) c.deref.ensures.value
-    ∙ sym (get-from_sorted place_cmp (map placed items) place (sorted_from_rises place_cmp place_of (λ change. change) items c.self.invariant.net.ascend))
+    let cs = values_of c.self.inside.changes.entries in
+    c.find_change.ensures ∙ ap (λ (es : List
+    (Place × Change)). find place_cmp place es) c.self.invariant.kept.own
+    ∙ sym (get-from_sorted place_cmp (map placed cs) place (sorted_from_rises place_cmp place_of
+    (λ change. change) cs c.self.invariant.kept.net.ascend))
     ∙ ap (λ (m : FinMap place_cmp Change). get m place) c.self.view_is
