@@ -58,22 +58,11 @@ fn read_records<H: Host>(host: &mut H) -> Result<Found, Refusal>
         → Rose (H.faults host.old) (H.faults host.new) }
     ensures say_faults { H.say_faults host.new ≡ H.say_faults host.old }
 {
-    let restart = match read_restart_record(host) {
-        Ok(restart) => restart,
-        Err(refusal) => return Err(refusal),
-    };
-    let blocks = match check_volumes(host, &restart) {
-        Ok(blocks) => blocks,
-        Err(refusal) => return Err(refusal),
-    };
-    let info = match read_log_info(host) {
-        Ok(info) => info,
-        Err(refusal) => return Err(refusal),
-    };
-    match log_start(&restart, &info) {
-        Ok(start) => Ok(Found { start, blocks }),
-        Err(refusal) => Err(refusal),
-    }
+    let restart = read_restart_record(host)?;
+    let blocks = check_volumes(host, &restart)?;
+    let info = read_log_info(host)?;
+    let start = log_start(&restart, &info)?;
+    Ok(Found { start, blocks })
 }
 
 // Syncs every device, so that what is read from now on stays, and reads the records.
@@ -123,10 +112,7 @@ pub fn open_database<H: Host>(
         → Rose (H.faults host.old) (H.faults host.new) }
     ensures say_faults { H.say_faults host.new ≡ H.say_faults host.old }
 {
-    let found = match find_records(host) {
-        Ok(found) => found,
-        Err(refusal) => return Err(refusal),
-    };
+    let found = find_records(host)?;
     let ring = match Ring::open(alloc, host, &found.start) {
         Ok(ring) => ring,
         Err(fault) => return Err(refusal_of(fault)),

@@ -14,6 +14,7 @@ use gate_slots::{SlotBody, SlotFault, SlotPlace, Slots};
 use mdb_bytes::{AreaState, LogInfo, RestartRecord, SnapshotEntry};
 use mdb_host::{Device, Host};
 use mdb_model::fault::{Damage, Rule};
+use mdb_model::limits::{MOST_BLOCKS, RECORD_NUMBER_END};
 use mdb_model::script::Refusal;
 use redo_ring::LogStart;
 
@@ -28,12 +29,6 @@ const LOG_SLOTS: SlotPlace = SlotPlace {
     device: Device::Log,
     page: 0,
 };
-
-// A number of the records from here on is past the end.
-const NUMBERS_END: u64 = 1 << 61;
-
-// The most blocks of a data area, and the most pages of a log volume.
-const MOST_PAGES: u32 = 65_536;
 
 // A device breaks a rule as a whole.
 pub(crate) fn damaged(device: Device, rule: Rule) -> Refusal
@@ -61,7 +56,7 @@ pub(crate) fn read_restart_record<H: Host>(host: &mut H) -> Result<RestartRecord
     let Some(pages) = host.size(Device::Data(1)) else {
         return Err(damaged(Device::Data(1), Rule::Missing));
     };
-    if pages < 64 || (MOST_PAGES as u64) < pages {
+    if pages < 64 || (MOST_BLOCKS as u64) < pages {
         return Err(damaged(Device::Data(1), Rule::Size));
     }
     match Slots::read(host, DATA_SLOTS) {
@@ -96,7 +91,7 @@ fn check_volume<H: Host>(
     let Some(pages) = host.size(device) else {
         return Err(damaged(device, Rule::Missing));
     };
-    if pages != size as u64 || size < 64 || MOST_PAGES - before < size {
+    if pages != size as u64 || size < 64 || MOST_BLOCKS - before < size {
         return Err(damaged(device, Rule::Size));
     }
     Ok(before + size)
@@ -115,10 +110,7 @@ pub(crate) fn check_volumes<H: Host>(host: &H, restart: &RestartRecord) -> Resul
 {
     let mut blocks = 0;
     for volume in 0..restart.volumes.len() {
-        match check_volume(host, restart, volume, blocks) {
-            Ok(more) => blocks = more,
-            Err(refusal) => return Err(refusal),
-        }
+        blocks = check_volume(host, restart, volume, blocks)?;
     }
     if blocks < 512 {
         return Err(damaged(Device::Data(restart.volumes.len() as u8), Rule::Size));
@@ -144,7 +136,7 @@ pub(crate) fn read_log_info<H: Host>(host: &mut H) -> Result<LogInfo, Refusal>
     let Some(pages) = host.size(Device::Log) else {
         return Err(damaged(Device::Log, Rule::Missing));
     };
-    if pages < 4 || (MOST_PAGES as u64) < pages {
+    if pages < 4 || (MOST_BLOCKS as u64) < pages {
         return Err(damaged(Device::Log, Rule::Size));
     }
     match Slots::read(host, LOG_SLOTS) {
@@ -164,14 +156,15 @@ pub(crate) fn read_log_info<H: Host>(host: &mut H) -> Result<LogInfo, Refusal>
 fn are_past(numbers: &[u64]) -> bool
     ensures { result ≡ is_past numbers.now }
 {
-    numbers.iter().any(|number| NUMBERS_END <= *number)
+    numbers.iter().any(|number| RECORD_NUMBER_END <= *number)
 }
 
 // Whether a number of a snapshot is.
 fn snapshots_are_past(entries: &[SnapshotEntry]) -> bool
     ensures { result ≡ has_past_snapshot entries.now }
 {
-    entries.iter().any(|entry| NUMBERS_END <= entry.commit || NUMBERS_END <= entry.savepoint)
+    entries.iter().any(|entry| RECORD_NUMBER_END <= entry.commit
+        || RECORD_NUMBER_END <= entry.savepoint)
 }
 
 // Whether a number of the restart record is, beside those of snapshots.
