@@ -8,10 +8,10 @@ use Rattle.std.specs.Prelude.{nat_le}
 use Rattle.std.specs.List.{list_all}
 use Rattle.std.proofs.lemmas.Bool.Decides.{nat_tests}
 use Rattle.std.proofs.lemmas.List.Sums.{sum_by-append, sum_by-cons}
+use Rattle.std.proofs.lemmas.Bool.{and_parts, and_from}
 use Rattle.mdb_model.specs.Script.{Create, create_of, is_within, number_of, numbers_of}
-use Rattle.creation.specs.Standing.{IsSite}
+use Rattle.standing.specs.Standing.{IsSite}
 use Rattle.call_words.specs.Words.{Gains, Lacks, with_front}
-use Rattle.call_words.proofs.WordWalks.{and_true}
 
 -- Numbers of words
 
@@ -75,14 +75,11 @@ lacks_behind a b none ns small is =
 
 -- Limits
 
-and_both : (a b : Bool) → a ≡ true → b ≡ true → (a && b) ≡ true
-and_both a b p q = rw (p, q) refl
-
 within_is : (low high n : ℕ) → is_within low high n ≡ true → (low ≤ n) × (n ≤ high)
-within_is low high n h = let both = and_true (nat_le low n) (nat_le n high) h in (grind (arith, nat_tests, both.0), grind (arith, nat_tests, both.1))
+within_is low high n h = let both = and_parts (nat_le low n) (nat_le n high) h in (grind (arith, nat_tests, both.0), grind (arith, nat_tests, both.1))
 
 within_from : (low high n : ℕ) → low ≤ n → n ≤ high → is_within low high n ≡ true
-within_from low high n p q = and_both (nat_le low n) (nat_le n high) (grind (arith, nat_tests)) (grind (arith, nat_tests))
+within_from low high n p q = and_from (nat_le low n) (nat_le n high) (grind (arith, nat_tests)) (grind (arith, nat_tests))
 
 least_is : (n : ℕ) → nat_le 64 n ≡ true → 64 ≤ n
 least_is n h = grind (arith, nat_tests)
@@ -92,12 +89,12 @@ least_from n h = grind (arith, nat_tests)
 
 each_from : (volumes : List ℕ) → list_all (nat_le 64) volumes ≡ true → (i : ℕ) → i < length volumes → 64 ≤ get_or volumes i 0
 each_from [] all i lt = absurd (omega arith)
-each_from (n ∷ volumes) all zero lt = least_is n (and_true (nat_le 64 n) (list_all (nat_le 64) volumes) all).0
-each_from (n ∷ volumes) all (suc i) lt = each_from volumes (and_true (nat_le 64 n) (list_all (nat_le 64) volumes) all).1 i (omega arith)
+each_from (n ∷ volumes) all zero lt = least_is n (and_parts (nat_le 64 n) (list_all (nat_le 64) volumes) all).0
+each_from (n ∷ volumes) all (suc i) lt = each_from volumes (and_parts (nat_le 64 n) (list_all (nat_le 64) volumes) all).1 i (omega arith)
 
 each_is : (volumes : List ℕ) → ((i : ℕ) → i < length volumes → 64 ≤ get_or volumes i 0) → list_all (nat_le 64) volumes ≡ true
 each_is [] each = refl
-each_is (n ∷ volumes) each = and_both (nat_le 64 n) (list_all (nat_le 64) volumes) (least_from n (each 0 (omega arith))) (each_is volumes (λ i lt. each (suc i) (omega arith)))
+each_is (n ∷ volumes) each = and_from (nat_le 64 n) (list_all (nat_le 64) volumes) (least_from n (each 0 (omega arith))) (each_is volumes (λ i lt. each (suc i) (omega arith)))
 
 abbrev pub is_site : (birth log_pages : ℕ) → List ℕ → Bool
 is_site birth log_pages volumes =
@@ -111,10 +108,10 @@ site_from birth log_pages volumes h =
     let l = is_within 1 8 (length volumes) in
     let e = list_all (nat_le 64) volumes in
     let s = is_within 512 65536 (sum volumes) in
-    let h1 = and_true (a && b && l && e) s h in
-    let h2 = and_true (a && b && l) e h1.0 in
-    let h3 = and_true (a && b) l h2.0 in
-    let h4 = and_true a b h3.0 in
+    let h1 = and_parts (a && b && l && e) s h in
+    let h2 = and_parts (a && b && l) e h1.0 in
+    let h3 = and_parts (a && b) l h2.0 in
+    let h4 = and_parts a b h3.0 in
     let wa = within_is 1 (2 ^ 61 - 1) birth h4.0 in
     let wb = within_is 4 65536 log_pages h4.1 in
     let wl = within_is 1 8 (length volumes) h3.1 in
@@ -134,10 +131,10 @@ site_is birth log_pages volumes site =
     let l = is_within 1 8 (length volumes) in
     let e = list_all (nat_le 64) volumes in
     let s = is_within 512 65536 (sum volumes) in
-    and_both (a && b && l && e) s
-    (and_both (a && b && l) e
-    (and_both (a && b) l
-    (and_both a b (within_from 1 (2 ^ 61 - 1) birth site.low (omega (arith, site.high))) (within_from 4 65536 log_pages site.least site.most))
+    and_from (a && b && l && e) s
+    (and_from (a && b && l) e
+    (and_from (a && b) l
+    (and_from a b (within_from 1 (2 ^ 61 - 1) birth site.low (omega (arith, site.high))) (within_from 4 65536 log_pages site.least site.most))
     (within_from 1 8 (length volumes) site.volumes.some site.volumes.few))
     (each_is volumes site.volumes.each))
     (within_from 512 65536 (sum volumes) site.volumes.least site.volumes.most)

@@ -12,12 +12,12 @@ use Rattle.clap.specs.Simple.{App, Shape, built, entered, names_of, subcommand_o
 use Rattle.clap.specs.Faults.{check_fault, defaults_fault, entered_fault, fault_of, level_fault, settle_fault, step_fault, turn_fault, walk_fault}
 use Rattle.clap.proofs.OnLiterals.{clap_on_literals}
 use Rattle.clap.proofs.FaultLemmas.{stopped_fault}
-use Rattle.std.proofs.lemmas.Bool.{eqb-true}
+use Rattle.std.proofs.lemmas.Bool.{eqb-true, and_parts}
 use Rattle.std.proofs.lemmas.Bool.Decides.{nat_tests}
 use Rattle.mdb_model.specs.Script.{Create, Load, asked_of, is_within, create_of, is_bad_word, load_of, number_of, numbers_of, same_word}
 use Rattle.call_words.specs.Asked.{asked_by, but_load}
 use Rattle.call_words.specs.Words.{clap_asks, command_line, request_in, with_front}
-use Rattle.call_words.proofs.WordWalks.{and_true, faults_after, held_after, is_plain_rule, walk_fault_is, walk_is, walk_stopped, word_is, word_no_fault}
+use Rattle.call_words.proofs.WordWalks.{faults_after, held_after, is_plain_rule, walk_fault_is, walk_is, walk_stopped, word_is, word_no_fault}
 
 abbrev are_good : List Text → Bool
 are_good words = list_all (λ w. not (is_bad_word w)) words
@@ -61,7 +61,7 @@ level_is s words plain good =
 rows_is : (s : Shape) (words : List Text) → list_all is_plain_rule s.rules ≡ true → are_good words ≡ true → rows_after s.rules [] words ≡ leaf_rows s words
 rows_is s words plain good = ap (λ (w : Walk). finished s.rules w.held) (walk_is s.rules nothing_held 1 words plain good)
 
--- Behind the name of a subcommand
+-- After the name of a subcommand
 
 or_else-none : (kinds : Kinds) → or_else kinds [] ≡ kinds
 or_else-none [] = refl
@@ -234,7 +234,7 @@ same_is [] [] same = refl
 same_is [] (y ∷ b) same = cc
 same_is (x ∷ a) [] same = cc
 same_is (x ∷ a) (y ∷ b) same =
-    let both = and_true (x == y) (same_word a b) same in
+    let both = and_parts (x == y) (same_word a b) same in
     ap₂ (λ (n : ℕ) (l : List ℕ). n ∷ l) (eqb-true x y both.0) (same_is a b both.1)
 
 is_named : (name word : Text) → bytes_eq name word ≡ true → name ≡ word
@@ -252,7 +252,7 @@ unfolding clap_on_literals
 clap_agrees [] good = refl
 clap_agrees (verb ∷ words) good = by_create (bytes_eq (codes "create") verb) refl where
   both : (not (is_bad_word verb) ≡ true) × (are_good words ≡ true)
-  both = and_true (not (is_bad_word verb)) (are_good words) good
+  both = and_parts (not (is_bad_word verb)) (are_good words) good
 
   Agrees : Text → Type 0
   Agrees name = clap_asks (fault_of command_line (name ∷ words)) (subcommand_of command_line (name ∷ words)) ≡ but_load (asked_of (name ∷ words))

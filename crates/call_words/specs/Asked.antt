@@ -1,4 +1,4 @@
--- What the words behind the program's name ask for.
+-- What the words after the program's name ask for.
 --     asked_by      what they ask for, or none where they break the rules
 --     AskNothing, AskToRun, AskToCreate      which of these it is
 --     IsRequest      it was read

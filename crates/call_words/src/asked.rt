@@ -1,5 +1,5 @@
-//! What the words behind the program's name ask for.
-ghost use Rattle.creation.specs.Standing.{IsSite};
+//! What the words after the program's name ask for.
+ghost use Rattle.standing.specs.Standing.{IsSite};
 
 use arrayvec::ArrayVec;
 

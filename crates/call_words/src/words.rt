@@ -250,7 +250,7 @@ fn are_plain(words: &[String]) -> bool
     words.iter().all(|word| !is_bad_word(word.as_str()))
 }
 
-/// What the words behind the program's name ask for. `Usage` where they break the rules.
+/// What the words after the program's name ask for. `Usage` where they break the rules.
 pub fn read_words(alloc: Global, words: &[String]) -> Result<Asked, WordsFault>
     ensures { MatchResult result (IsRequest (asked_by (map string_bytes words.now)))
         (λ fault. fault ≡ WordsFault.Usage → asked_by (map string_bytes words.now) ≡ None) }
@@ -258,11 +258,6 @@ pub fn read_words(alloc: Global, words: &[String]) -> Result<Asked, WordsFault>
     if !are_plain(words) {
         return Err(WordsFault::Usage);
     }
-    match read_matches(alloc, words) {
-        Ok(matches) => match read_asked(&matches) {
-            Some(asked) => Ok(asked),
-            None => Err(WordsFault::Usage),
-        },
-        Err(fault) => Err(fault),
-    }
+    let matches = read_matches(alloc, words)?;
+    read_asked(&matches).ok_or(WordsFault::Usage)
 }

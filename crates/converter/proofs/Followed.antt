@@ -5,7 +5,8 @@ use Rattle.std.proofs.lemmas.Bool.{cases_eq, cases_lt, false≢true, lt-ltb}
 use Rattle.std.proofs.lemmas.List.{get_or-set_same, get_or-set_other, get_or_past, length-replicate}
 use Rattle.mdb_bytes.specs.ConverterPages.{converter_entry_fits}
 use Rattle.mdb_bytes.specs.declared.converter_pages.ConverterEntry.{ConverterEntry}
-use Rattle.converter.specs.Maps.{Maps, no_entry, entry_at, IsUsed, IsOpenTo, IsSound, IsTracked, IsFollowed, with_loaded, shown}
+use Rattle.mdb_bytes.specs.Firsts.{no_entry}
+use Rattle.converter.specs.Maps.{Maps, entry_at, IsUsed, IsOpenTo, IsSoundMaps, IsTracked, IsFollowed, with_loaded, shown_frozen}
 use Rattle.converter.proofs.Sound.{cleared, set_sound, frozen_sound, settled_sound, own_sound, loaded_sound, blank_sound}
 
 -- a leaf whose flag is set may change
@@ -82,10 +83,10 @@ module _ (m : Maps) (room : List ConverterEntry) (one two : List Bool) (followed
   }
 
   -- after `settle`
-  pub settled_on : (n : ℕ) (now next : List ConverterEntry) (x y : List Bool) → m.frozen_at ≡ Some n → m.frozen ≡ shown m.frozen_at room → now ≡ room → next ≡ m.saved → x ≡ two → y ≡ one
+  pub settled_on : (n : ℕ) (now next : List ConverterEntry) (x y : List Bool) → m.frozen_at ≡ Some n → m.frozen ≡ shown_frozen m.frozen_at room → now ≡ room → next ≡ m.saved → x ≡ two → y ≡ one
       → IsFollowed record m { saved = now; frozen = replicate (length next) no_entry; frozen_at = None } next x y
   settled_on n now next x y at is now_is next_is x_is y_is =
-      let frozen_is : m.frozen ≡ room = is ∙ ap (λ (o : Option ℕ). shown o room) at in
+      let frozen_is : m.frozen ≡ room = is ∙ ap (λ (o : Option ℕ). shown_frozen o room) at in
       record {
         sound = settled_sound m now (replicate (length next) no_entry) n at (now_is ∙ sym frozen_is)
             (ap (λ (l : List ConverterEntry). replicate (length l) no_entry) next_is ∙ ap (λ (k : ℕ). replicate k no_entry) (followed.sound.saved_long ∙ sym followed.sound.frozen_long)) followed.sound;
@@ -97,13 +98,13 @@ module _ (m : Maps) (room : List ConverterEntry) (one two : List Bool) (followed
       }
 
   -- after an own page was given a block
-  pub own_on : (p n : ℕ) (e : ConverterEntry) → p < m.conv → m.frozen_at ≡ Some n → m.frozen ≡ shown m.frozen_at room → 2 ≤ e.block → e.block < length m.owner → e.stamp < 2 ^ 62 → (IsUsed m e.block → ⊥)
-      → IsFollowed record m { present = set m.present p e; frozen = shown m.frozen_at (set room p e); owner = set m.owner e.block p } (set room p e) one two
+  pub own_on : (p n : ℕ) (e : ConverterEntry) → p < m.conv → m.frozen_at ≡ Some n → m.frozen ≡ shown_frozen m.frozen_at room → 2 ≤ e.block → e.block < length m.owner → e.stamp < 2 ^ 62 → (IsUsed m e.block → ⊥)
+      → IsFollowed record m { present = set m.present p e; frozen = shown_frozen m.frozen_at (set room p e); owner = set m.owner e.block p } (set room p e) one two
   own_on p n e page at is low high stamp unused =
-      let frozen_is : m.frozen ≡ room = is ∙ ap (λ (o : Option ℕ). shown o room) at in
-      let same : shown m.frozen_at (set room p e) ≡ set m.frozen p e = ap (λ (o : Option ℕ). shown o (set room p e)) at ∙ ap (λ (l : List ConverterEntry). set l p e) (sym frozen_is) in
+      let frozen_is : m.frozen ≡ room = is ∙ ap (λ (o : Option ℕ). shown_frozen o room) at in
+      let same : shown_frozen m.frozen_at (set room p e) ≡ set m.frozen p e = ap (λ (o : Option ℕ). shown_frozen o (set room p e)) at ∙ ap (λ (l : List ConverterEntry). set l p e) (sym frozen_is) in
       record {
-        sound = subst (λ (l : List ConverterEntry). IsSound record m { present = set m.present p e; frozen = l; owner = set m.owner e.block p }) (sym same) (own_sound m p n e page at followed.sound low high stamp unused);
+        sound = subst (λ (l : List ConverterEntry). IsSoundMaps record m { present = set m.present p e; frozen = l; owner = set m.owner e.block p }) (sym same) (own_sound m p n e page at followed.sound low high stamp unused);
         saved_flags = followed.saved_flags;
         room_flags = followed.room_flags;
         room_long = omega (arith, followed.room_long, length-set room p e, length-set m.owner e.block p);

@@ -4,9 +4,10 @@ use Rattle.std.proofs.lemmas.Bool.{cases_eq, cases_lt}
 use Rattle.std.proofs.lemmas.List.{get_or-set_same, get_or-set_other, get_or_past}
 use Rattle.free_blocks.specs.Free.{IsFree}
 use Rattle.mdb_bytes.specs.declared.converter_pages.ConverterEntry.{ConverterEntry}
-use Rattle.converter.specs.Maps.{no_entry, entry_at, block_of, LeavesIn, Given}
+use Rattle.mdb_bytes.specs.Firsts.{no_entry}
+use Rattle.converter.specs.Maps.{entry_at, block_of, LeavesIn, FreesLeaving}
 
-pub given_none : (leaves : ℕ → ℕ → Type 0) (at : ℕ) (flags : List Bool) → Given leaves at at flags flags
+pub given_none : (leaves : ℕ → ℕ → Type 0) (at : ℕ) (flags : List Bool) → FreesLeaving leaves at at flags flags
 given_none leaves at flags = record { long = refl; stays = λ b is. is; given = λ k b le lt is. absurd (omega (arith, le, lt)); only = λ b is. inl is }
 
 flag_set : (flags : List Bool) (b c : ℕ) → IsFree (set flags b true) c → IsFree flags c ⊎ (c ≡ b)
@@ -22,7 +23,7 @@ flag_stays flags b c lt is = elim (cases_eq c b) [
 ]
 
 -- two runs one after the other
-pub given_on : (leaves : ℕ → ℕ → Type 0) (a b c : ℕ) (old mid new : List Bool) → a ≤ b → b ≤ c → Given leaves a b old mid → Given leaves b c mid new → Given leaves a c old new
+pub given_on : (leaves : ℕ → ℕ → Type 0) (a b c : ℕ) (old mid new : List Bool) → a ≤ b → b ≤ c → FreesLeaving leaves a b old mid → FreesLeaving leaves b c mid new → FreesLeaving leaves a c old new
 given_on leaves a b c old mid new ab bc one two = record {
   long = two.long ∙ one.long;
   stays = λ x is. two.stays x (one.stays x is);
@@ -40,11 +41,11 @@ given_on leaves a b c old mid new ab bc one two = record {
 }
 
 -- a run in which nothing leaves
-pub given_still : (leaves : ℕ → ℕ → Type 0) (a b : ℕ) (flags : List Bool) → ((k x : ℕ) → a ≤ k → k < b → leaves k x → ⊥) → Given leaves a b flags flags
+pub given_still : (leaves : ℕ → ℕ → Type 0) (a b : ℕ) (flags : List Bool) → ((k x : ℕ) → a ≤ k → k < b → leaves k x → ⊥) → FreesLeaving leaves a b flags flags
 given_still leaves a b flags none = record { long = refl; stays = λ x is. is; given = λ k x le lt is. absurd (none k x le lt is); only = λ x is. inl is }
 
 -- the same up to another end, where nothing leaves between
-pub given_end : (leaves : ℕ → ℕ → Type 0) (a b c : ℕ) (old new : List Bool) → ((k x : ℕ) → a ≤ k → leaves k x → (k < b → k < c) × (k < c → k < b)) → Given leaves a b old new → Given leaves a c old new
+pub given_end : (leaves : ℕ → ℕ → Type 0) (a b c : ℕ) (old new : List Bool) → ((k x : ℕ) → a ≤ k → leaves k x → (k < b → k < c) × (k < c → k < b)) → FreesLeaving leaves a b old new → FreesLeaving leaves a c old new
 given_end leaves a b c old new same one = record {
   long = one.long;
   stays = one.stays;
@@ -57,8 +58,8 @@ given_end leaves a b c old new same one = record {
 
 -- one place more, whose block was given
 module _ (present saved frozen : List ConverterEntry) (marks : List (List Bool)) (at n : ℕ) (old mid : List Bool)
-    (before : Given (LeavesIn present saved frozen marks) at n old mid) where
-  pub given_more : at ≤ n → block_of saved n < length mid → LeavesIn present saved frozen marks n (block_of saved n) → Given (LeavesIn present saved frozen marks) at (n + 1) old (set mid (block_of saved n) true)
+    (before : FreesLeaving (LeavesIn present saved frozen marks) at n old mid) where
+  pub given_more : at ≤ n → block_of saved n < length mid → LeavesIn present saved frozen marks n (block_of saved n) → FreesLeaving (LeavesIn present saved frozen marks) at (n + 1) old (set mid (block_of saved n) true)
   given_more low lt leaves = record {
     long = length-set mid (block_of saved n) true ∙ before.long;
     stays = λ b is. flag_stays mid (block_of saved n) b lt (before.stays b is);
@@ -75,7 +76,7 @@ module _ (present saved frozen : List ConverterEntry) (marks : List (List Bool))
     ];
   }
 
-  pub given_same : (LeavesIn present saved frozen marks n (block_of saved n) → ⊥) → Given (LeavesIn present saved frozen marks) at (n + 1) old mid
+  pub given_same : (LeavesIn present saved frozen marks n (block_of saved n) → ⊥) → FreesLeaving (LeavesIn present saved frozen marks) at (n + 1) old mid
   given_same stays = record {
     long = before.long;
     stays = before.stays;
@@ -99,7 +100,7 @@ module _ (present saved frozen : List ConverterEntry) (marks : List (List Bool))
   ]
 
   -- a loop that stopped at the end of the map, or where it had to
-  pub given_all : (end stop : ℕ) → at ≤ end → stop ≤ end → (stop < end → length saved ≤ stop) → stop ≤ n → (at ≤ stop → n ≤ stop) → Given (LeavesIn present saved frozen marks) at end old mid
+  pub given_all : (end stop : ℕ) → at ≤ end → stop ≤ end → (stop < end → length saved ≤ stop) → stop ≤ n → (at ≤ stop → n ≤ stop) → FreesLeaving (LeavesIn present saved frozen marks) at end old mid
   given_all end stop le few far past upto = given_end (LeavesIn present saved frozen marks) at n end old mid (λ k x low leaves.
       let there : k < length saved = inside k x leaves in
       (λ less. below_end k low less there, λ less. elim (cases_lt stop end) [ inl l ↦ omega (arith, far l, there, past) | inr g ↦ omega (arith, g, less, past) ])) before
@@ -121,7 +122,7 @@ module _ (present saved frozen : List ConverterEntry) (marks : List (List Bool))
 
 -- a leaf that is not after has nothing that leaves
 pub leaf_still : (present saved frozen : List ConverterEntry) (marks : List (List Bool)) (at : ℕ) (flags : List Bool) → ((k : ℕ) → k < 600 → entry_at saved (at + k) ≡ entry_at present (at + k))
-    → Given (LeavesIn present saved frozen marks) at (at + 600) flags flags
+    → FreesLeaving (LeavesIn present saved frozen marks) at (at + 600) flags flags
 leaf_still present saved frozen marks at flags same = given_still (LeavesIn present saved frozen marks) at (at + 600) flags (λ k x le lt leaves.
     let e : at + (k - at) ≡ k = omega (arith, le) in
     let here : entry_at saved k ≡ entry_at present k = subst (λ (p : ℕ). entry_at saved p ≡ entry_at present p) e (same (k - at) (omega (arith, le, lt))) in
@@ -129,7 +130,7 @@ leaf_still present saved frozen marks at flags same = given_still (LeavesIn pres
 
 -- past the end of the map nothing leaves
 pub given_map : (present saved frozen : List ConverterEntry) (marks : List (List Bool)) (far : ℕ) (old new : List Bool) → length saved ≤ far
-    → Given (LeavesIn present saved frozen marks) 0 far old new → Given (LeavesIn present saved frozen marks) 0 (length saved) old new
+    → FreesLeaving (LeavesIn present saved frozen marks) 0 far old new → FreesLeaving (LeavesIn present saved frozen marks) 0 (length saved) old new
 given_map present saved frozen marks far old new le given = given_end (LeavesIn present saved frozen marks) 0 far (length saved) old new (λ k x low leaves. (
   λ less. elim (cases_lt k (length saved)) [
     | inl lt ↦ lt

@@ -5,4 +5,4 @@ pub mod Followed
 pub mod Spelled
 pub mod Loaded
 pub mod OwnSteps
-mod Named
+pub mod Named

@@ -2,7 +2,7 @@
 use Rattle.std.proofs.Common.{◌≡◌, ◌≢◌, ◌⊎◌, inl, inr, ℕ, zero, suc, ◌+◌, ◌-◌, ◌*◌, ◌/◌, ◌<◌, ◌≤◌, ◌^◌, List, [], ◌∷◌, length, get_or, set, replicate, Bool, true, false, Result, Ok, Err, refl, ap, sym, subst, ◌∙◌, arith, length-set}
 use Rattle.std.specs.Prelude.{IsTrue, ◌&&◌, ◌||◌, ◌==◌, nat_lt, IfErr, IsErrAnd}
 use Rattle.std.specs.List.{list_all}
-use Rattle.std.proofs.lemmas.Bool.{cases_eq, cases_lt, ltb-true, false≢true, eqb-true}
+use Rattle.std.proofs.lemmas.Bool.{cases_eq, cases_lt, ltb-true, false≢true, eqb-true, false_from_ne_true}
 use Rattle.std.proofs.lemmas.List.{get_or_past, get_or-set_same, get_or-set_other, length-replicate}
 use Rattle.mdb_model.specs.declared.fault.Damage.{Damage}
 use Rattle.mdb_model.specs.declared.fault.Rule.TheVariants.{Block}
@@ -16,9 +16,10 @@ use Rattle.mdb_bytes.specs.Parts.{page_room}
 use Rattle.mdb_bytes.specs.ConverterPages.{converter_entry_fits, converter_entry_fields, converter_leaf_fits, converter_leaf_front, converter_leaf_format, converter_root_format, converter_root_fits, converter_root_fields}
 use Rattle.mdb_bytes.proofs.ConverterLaws.{converter_leaf_again, converter_root_again}
 use Rattle.mdb_bytes.proofs.TableLaws.{room-section}
-use Rattle.converter.specs.Maps.{Maps, no_entry, entry_at, block_of, IsUsed, IsSound, with_loaded, empty_maps}
-use Rattle.converter.specs.Tree.{IsLeafOf, IsRootOf, LeafHeld, RootHeld}
-use Rattle.converter.specs.Loads.{IsOff, IsRead, IsLoading, Admitted, IsRefused, Breaks, Tells, row_of, TakesLeaf, RefusesLeaf, IsUnderWay, named, BreaksPlace, BreaksRow, BreaksLeaf, BreaksPages}
+use Rattle.mdb_bytes.specs.Firsts.{no_entry}
+use Rattle.converter.specs.Maps.{Maps, entry_at, block_of, IsUsed, IsSoundMaps, with_loaded, empty_maps}
+use Rattle.converter.specs.Tree.{IsLeafOf, IsRootOf, HasLeafBytes, HasRootBytes}
+use Rattle.converter.specs.Loads.{IsOff, IsRead, IsLoading, Admitted, IsEntryRefused, Breaks, FaultReports, row_of, TakesLeaf, RefusesLeaf, IsUnderWay, named, BreaksPlace, BreaksRow, BreaksLeaf, BreaksPages}
 use Rattle.converter.proofs.Sound.{none_there}
 
 -- bytes spell one leaf and one root only
@@ -74,10 +75,6 @@ root_small v bytes spells =
     let fit = both_right (converter_root_fits v) (fields_fit (converter_root_fields v)) spells.0 in
     ltb-true v.savepoint (2 ^ 62) (both_left (nat_lt v.savepoint (2 ^ 62)) _ fit)
 
-not_true : (b : Bool) → (b ≡ true → ⊥) → b ≡ false
-not_true true other = absurd (other refl)
-not_true false other = refl
-
 -- an entry without a block is none
 pub none_is : (e : ConverterEntry) → IsTrue (converter_entry_fits e) → e.block ≡ 0 → e ≡ no_entry
 none_is e fits zero_is = elim (cases_eq e.stamp 0) [
@@ -87,7 +84,7 @@ none_is e fits zero_is = elim (cases_eq e.stamp 0) [
   where
     not_both : (b s : ℕ) → b ≡ 0 → s ≢ 0 → IsTrue ((b == 0 && s == 0) || (nat_lt 0 b && nat_lt 0 s)) → ⊥
     not_both b s is other holds =
-        let first : (s == 0) ≡ false = not_true (s == 0) (λ is_true. other (eqb-true s 0 is_true)) in
+        let first : (s == 0) ≡ false = false_from_ne_true (s == 0) (λ is_true. other (eqb-true s 0 is_true)) in
         false≢true (sym (ap (λ t. (t == 0 && s == 0) || (nat_lt 0 t && nat_lt 0 s)) is ∙ ap (λ t. (true && t) || (false && nat_lt 0 s)) first) ∙ holds)
 
 -- One entry after the other
@@ -133,7 +130,7 @@ module _ (old now : Maps) (at k : ℕ) (f : ℕ → ConverterEntry) (before : Ad
       still q out = elim out [ inl lt ↦ inl lt | inr le ↦ inr (omega (arith, le)) ]
 
   -- why an entry was refused
-  saved_has : (q : ℕ) → block_of now.saved q ≡ (f k).block → 0 < (f k).block → IsRefused old f k
+  saved_has : (q : ℕ) → block_of now.saved q ≡ (f k).block → 0 < (f k).block → IsEntryRefused old f k
   saved_has q has some = elim (cases_lt q at) [
     | inl low ↦ inr (inl (q, sym (ap (λ (e : ConverterEntry). e.block) (before.others q (inl low))) ∙ has))
     | inr high ↦ elim (cases_lt q (at + k)) [
@@ -145,7 +142,7 @@ module _ (old now : Maps) (at k : ℕ) (f : ℕ → ConverterEntry) (before : Ad
     ]
   ]
 
-  pub refused : IsOff (length now.owner) (f k).block ⊎ IsUsed now (f k).block → IsRefused old f k
+  pub refused : IsOff (length now.owner) (f k).block ⊎ IsUsed now (f k).block → IsEntryRefused old f k
   refused why = elim why [
     | inl off ↦ inl (subst (λ (n : ℕ). IsOff n (f k).block) before.area off)
     | inr used ↦ elim (cases_lt (f k).block 2) [
@@ -163,17 +160,17 @@ module _ (old now : Maps) (at k : ℕ) (f : ℕ → ConverterEntry) (before : Ad
 -- One leaf after the other
 
 -- what a fault says follows from what it said
-pub tells_on : (P Q : Damage → Type 0) (fault : PageFault) → ((d : Damage) → P d → Q d) → Tells P fault → Tells Q fault
+pub tells_on : (P Q : Damage → Type 0) (fault : PageFault) → ((d : Damage) → P d → Q d) → FaultReports P fault → FaultReports Q fault
 tells_on P Q Failed on is = tt
 tells_on P Q (Damaged d) on is = on d is
 
 -- what a fault says follows on the answer that passes it on
 pub tells_passed : {U : Type 0} (P Q : Damage → Type 0) (fault : PageFault) (answer : Result U PageFault)
-    → IsErrAnd answer (λ passed. passed ≡ fault) → ((d : Damage) → P d → Q d) → Tells P fault
-    → IfErr answer (Tells Q)
+    → IsErrAnd answer (λ passed. passed ≡ fault) → ((d : Damage) → P d → Q d) → FaultReports P fault
+    → IfErr answer (FaultReports Q)
 tells_passed P Q fault (Ok value) is on tells = absurd is
 tells_passed P Q fault (Err passed) is on tells =
-    subst (Tells Q) (sym is) (tells_on P Q fault on tells)
+    subst (FaultReports Q) (sym is) (tells_on P Q fault on tells)
 
 -- the same maps over a row that reads the same
 pub under_row : (T : Type 0) (a m : Maps) (root : ℕ) (row other : ℕ → List ℕ) (i : ℕ) → (T → row ≡ other) → IsUnderWay T a m root row i → IsUnderWay T a m root other i
@@ -185,8 +182,8 @@ under_row T a m root row other i same way = record {
   some = way.some;
   placed = way.placed;
   rest = way.rest;
-  held = λ told. subst (λ (r : ℕ → List ℕ). RootHeld m.saved m.conv (r root)) (same told) (way.held told);
-  leaves = λ told j lt. subst (λ (r : ℕ → List ℕ). LeafHeld m.saved m.conv j (r (block_of m.saved (j + 1)))) (same told) (way.leaves told j lt);
+  held = λ told. subst (λ (r : ℕ → List ℕ). HasRootBytes m.saved m.conv (r root)) (same told) (way.held told);
+  leaves = λ told j lt. subst (λ (r : ℕ → List ℕ). HasLeafBytes m.saved m.conv j (r (block_of m.saved (j + 1)))) (same told) (way.leaves told j lt);
 }
 
 -- the same maps, counted from others of one size
@@ -203,7 +200,7 @@ under_from T a b m root row i conv area way = record {
   leaves = way.leaves;
 }
 
-module _ (T : Type 0) (first m : Maps) (root : ℕ) (row : ℕ → List ℕ) (i : ℕ) (way : IsUnderWay T first m root row i) (sound : IsSound m) where
+module _ (T : Type 0) (first m : Maps) (root : ℕ) (row : ℕ → List ℕ) (i : ℕ) (way : IsUnderWay T first m root row i) (sound : IsSoundMaps m) where
   -- what was read
   pub read_of : T → IsRead m.conv (length m.owner) root row i m.saved
   read_of told = record {
@@ -261,7 +258,7 @@ module _ (T : Type 0) (first m : Maps) (root : ℕ) (row : ℕ → List ℕ) (i 
       leaves = λ j less. h.leaves j (omega (arith, less, takes.taken.conv)) ∙ sym (own_same (j + 1) (omega (arith, less, takes.taken.conv)));
     };
     leaves = λ told j less. elim (cases_eq j i) [
-      | inl here ↦ subst (λ (x : ℕ). LeafHeld next.saved next.conv x (row (block_of next.saved (x + 1)))) (sym here) (this told)
+      | inl here ↦ subst (λ (x : ℕ). HasLeafBytes next.saved next.conv x (row (block_of next.saved (x + 1)))) (sym here) (this told)
       | inr other ↦ before told j (omega (arith, less, other))
     ];
   }
@@ -269,7 +266,7 @@ module _ (T : Type 0) (first m : Maps) (root : ℕ) (row : ℕ → List ℕ) (i 
       own_same : (q : ℕ) → q < m.conv → block_of next.saved q ≡ block_of m.saved q
       own_same q less = ap (λ (e : ConverterEntry). e.block) (takes.taken.others q (inl (omega (arith, less))))
 
-      this : T → LeafHeld next.saved next.conv i (row (block_of next.saved (i + 1)))
+      this : T → HasLeafBytes next.saved next.conv i (row (block_of next.saved (i + 1)))
       this told = record {
         leaf = takes.value;
         spells = subst (λ (l : List ℕ). Spells converter_leaf_format takes.value l) (is told ∙ ap row (sym (own_same (i + 1) lt))) takes.is.spells;
@@ -277,7 +274,7 @@ module _ (T : Type 0) (first m : Maps) (root : ℕ) (row : ℕ → List ℕ) (i 
         entries = λ k less. sym (takes.taken.set k less) ∙ ap (λ (c : ℕ). entry_at next.saved (c + 600 * i + k)) (sym takes.taken.conv);
       }
 
-      before : T → (j : ℕ) → j < i → LeafHeld next.saved next.conv j (row (block_of next.saved (j + 1)))
+      before : T → (j : ℕ) → j < i → HasLeafBytes next.saved next.conv j (row (block_of next.saved (j + 1)))
       before told j less =
           let h = way.leaves told j less in
           record {
@@ -339,7 +336,7 @@ module _ (T : Type 0) (old now : Maps) (root : ℕ) (row : ℕ → List ℕ) (va
           ap (λ (x : ConverterEntry). x.block) (subst (λ (p : ℕ). entry_at now.saved p ≡ row_of value j) e (taken.set j (omega (arith, lt, taken.conv, is.count))))
 
   -- a leaf that was refused breaks a rule
-  pub row_breaks : (sizes : List ℕ) (d : Damage) → T → (k : ℕ) → k < length value.leaves.items → IsRefused (with_loaded old 0 record { block = root; stamp = value.savepoint }) (row_of value) k → d ≡ named sizes root Block
+  pub row_breaks : (sizes : List ℕ) (d : Damage) → T → (k : ℕ) → k < length value.leaves.items → IsEntryRefused (with_loaded old 0 record { block = root; stamp = value.savepoint }) (row_of value) k → d ≡ named sizes root Block
       → Breaks sizes old.conv (length old.owner) root row d
   row_breaks sizes d told k lt refused d_is = inr (inr (inl record {
     value = value;

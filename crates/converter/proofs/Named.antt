@@ -10,12 +10,12 @@ use Rattle.mdb_bytes.specs.declared.converter_pages.ConverterLeaf.{ConverterLeaf
 use Rattle.mdb_bytes.specs.declared.converter_pages.ConverterRoot.{ConverterRoot}
 use Rattle.mdb_bytes.specs.ConverterPages.{converter_entry_fits, converter_leaf_format, converter_leaf_fields, converter_leaf_fits, converter_root_format}
 use Rattle.mdb_bytes.specs.Fields.{fields_fit}
-use Rattle.mdb_bytes.specs.Firsts.{leaf_count}
+use Rattle.mdb_bytes.specs.Firsts.{leaf_count, no_entry}
 use Rattle.mdb_bytes.specs.KeptMaps.{Placed, root_of, leaf_of, leaf_with, entries_from, placed, pages_at, kept_under, root_with_leaves, kept_map}
 use Rattle.mdb_bytes.proofs.Decoding.{spelled-decoded}
 use Rattle.mdb_bytes.proofs.ConverterLaws.{converter_root_again, converter_leaf_again}
-use Rattle.converter.specs.Maps.{no_entry, entry_at, block_of}
-use Rattle.converter.specs.Tree.{LeafHeld, HasTree}
+use Rattle.converter.specs.Maps.{entry_at, block_of}
+use Rattle.converter.specs.Tree.{HasLeafBytes, HasTree}
 
 -- the middle one of three tests
 middle : (a b c d : Bool) → ((a && b && c) && d) ≡ true → b ≡ true
@@ -40,13 +40,13 @@ used_same k (x ∷ xs) (y ∷ ys) same =
 
 module _ (row : ℕ → List ℕ) (m : List ConverterEntry) (conv : ℕ) where
   -- the leaf that stands on a block
-  leaf_there : (leaf block : ℕ) (held : LeafHeld m conv leaf (row block)) → leaf_with leaf (row block) ≡ Some held.leaf
+  leaf_there : (leaf block : ℕ) (held : HasLeafBytes m conv leaf (row block)) → leaf_with leaf (row block) ≡ Some held.leaf
   unfolding leaf_of
   leaf_there leaf block held =
       ap (option_and_then (λ (v : ConverterLeaf). if v.leaf == leaf then Some v else None)) (spelled-decoded converter_leaf_format converter_leaf_again (row block) held.leaf held.spells)
       ∙ ap (λ b. cond b (Some held.leaf) None) (eq-eqb held.leaf.leaf leaf held.number)
 
-  leaf_long : (leaf block : ℕ) (held : LeafHeld m conv leaf (row block)) → length held.leaf.entries ≡ 600
+  leaf_long : (leaf block : ℕ) (held : HasLeafBytes m conv leaf (row block)) → length held.leaf.entries ≡ 600
   leaf_long leaf block held = long_of held.leaf (held.spells.0) where
     long_of : (v : ConverterLeaf) → IsTrue (converter_leaf_fits v && fields_fit (converter_leaf_fields v)) → length v.entries ≡ 600
     long_of v keeps =
@@ -59,12 +59,12 @@ module _ (row : ℕ → List ℕ) (m : List ConverterEntry) (conv : ℕ) where
     pub long : length entries ≡ 600 * length leaves
     pub are : (k : ℕ) → k < 600 * length leaves → entry_at entries k ≡ entry_at m (conv + 600 * leaf + k)
 
-  entries_are : (leaf : ℕ) (leaves : List ℕ) → ((i : ℕ) → i < length leaves → LeafHeld m conv (leaf + i) (row (get_or leaves i 0))) → Entries leaf leaves
+  entries_are : (leaf : ℕ) (leaves : List ℕ) → ((i : ℕ) → i < length leaves → HasLeafBytes m conv (leaf + i) (row (get_or leaves i 0))) → Entries leaf leaves
   entries_are leaf [] held = record { entries = []; there = refl; long = refl; are = λ k less. absurd (omega (arith, less)) }
   entries_are leaf (b ∷ bs) held =
-      with_first (subst (λ n. LeafHeld m conv n (row b)) (omega arith) (held 0 (omega arith)))
-      (entries_are (leaf + 1) bs (λ i less. subst (λ n. LeafHeld m conv n (row (get_or bs i 0))) (omega arith) (held (suc i) (omega (arith, less))))) where
-        with_first : LeafHeld m conv leaf (row b) → Entries (leaf + 1) bs → Entries leaf (b ∷ bs)
+      with_first (subst (λ n. HasLeafBytes m conv n (row b)) (omega arith) (held 0 (omega arith)))
+      (entries_are (leaf + 1) bs (λ i less. subst (λ n. HasLeafBytes m conv n (row (get_or bs i 0))) (omega arith) (held (suc i) (omega (arith, less))))) where
+        with_first : HasLeafBytes m conv leaf (row b) → Entries (leaf + 1) bs → Entries leaf (b ∷ bs)
         with_first first rest =
             let own : length first.leaf.entries ≡ 600 = leaf_long leaf b first in
             record {
@@ -101,7 +101,7 @@ module _ (row : ℕ → List ℕ) (m : List ConverterEntry) (conv : ℕ) where
         ∙ ap (λ b. cond b (Some root) None) (eq-eqb (length root.leaves.items) (leaf_count blocks) (omega (arith, count, conv_is)))
 
     all : Entries 0 leaves
-    all = entries_are 0 leaves (λ i less. subst (λ (b : ℕ). LeafHeld m conv (0 + i) (row b)) (sym (leaf_is i less)) (subst (λ n. LeafHeld m conv n (row (block_of m (i + 1)))) (omega arith) (tree.leaves i (omega (arith, less, count)))))
+    all = entries_are 0 leaves (λ i less. subst (λ (b : ℕ). HasLeafBytes m conv (0 + i) (row b)) (sym (leaf_is i less)) (subst (λ n. HasLeafBytes m conv n (row (block_of m (i + 1)))) (omega arith) (tree.leaves i (omega (arith, less, count)))))
 
     -- the entries of the leaves are those of the map's pages, with empty ones after
     entry_same : (i : ℕ) → entry_at all.entries i ≡ entry_at (drop conv m) i

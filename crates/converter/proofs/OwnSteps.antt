@@ -10,9 +10,10 @@ use Rattle.volume_disk.specs.Blocks.{Writes, block_at}
 use Rattle.mdb_bytes.specs.Fields.{Spells}
 use Rattle.mdb_bytes.specs.ConverterPages.{converter_leaf_format}
 use Rattle.mdb_bytes.specs.declared.converter_pages.ConverterEntry.{ConverterEntry}
-use Rattle.converter.specs.Maps.{Maps, no_entry, entry_at, block_of, HasAt, IsSound, AreUnused}
-use Rattle.converter.specs.Tree.{LeafHeld, Took, IsSameLeaf}
-use Rattle.converter.specs.Own.{OwnOnly, Fewer, OneOwn, LeavesHeld, SavedLeaves}
+use Rattle.mdb_bytes.specs.Firsts.{no_entry}
+use Rattle.converter.specs.Maps.{Maps, entry_at, block_of, HasAt, IsSoundMaps, AreUnused}
+use Rattle.converter.specs.Tree.{HasLeafBytes, TakesBlock, IsSameLeaf}
+use Rattle.converter.specs.Own.{OwnOnly, Fewer, OneOwn, HasLeavesBytes, SavedLeaves}
 use Rattle.converter.proofs.Spelled.{free_below, still_unused}
 
 pub own_none : (m : Maps) → OwnOnly m m
@@ -49,7 +50,7 @@ pub none_one : (m : Maps) (flags : List Bool) (q : ℕ) → AreUnused m flags �
 none_one m flags q unused = record { own = own_none m; fewer = fewer_none flags 1; unused = unused; others = λ p other. refl; taken = λ b is. inl is }
 
 -- one own page took a block
-pub took_one : (old new : Maps) (flags next : List Bool) (q savepoint b : ℕ) → block_of new.frozen q ≡ b → q < old.conv → AreUnused old flags → Took old new flags next q savepoint b → OneOwn old new flags next q
+pub took_one : (old new : Maps) (flags next : List Bool) (q savepoint b : ℕ) → block_of new.frozen q ≡ b → q < old.conv → AreUnused old flags → TakesBlock old new flags next q savepoint b → OneOwn old new flags next q
 took_one old new flags next q savepoint b at place unused took = record {
   own = subst (λ (m : Maps). OwnOnly old m) (sym took.maps) record {
     conv = refl;
@@ -76,7 +77,7 @@ took_one old new flags next q savepoint b at place unused took = record {
     e = record { block = b; stamp = savepoint }
 
 pub leaf_moved : (l next : List ConverterEntry) (conv other i : ℕ) (bytes after : List ℕ) → after ≡ bytes → other ≡ conv → ((k : ℕ) → k < 600 → entry_at next (conv + 600 * i + k) ≡ entry_at l (conv + 600 * i + k))
-    → LeafHeld l conv i bytes → LeafHeld next other i after
+    → HasLeafBytes l conv i bytes → HasLeafBytes next other i after
 leaf_moved l next conv other i bytes after same is entries held = record {
   leaf = held.leaf;
   spells = subst (λ (x : List ℕ). Spells converter_leaf_format held.leaf x) (sym same) held.spells;
@@ -90,26 +91,26 @@ pub used_stays : (sizes : List ℕ) (m : Maps) (flags : List Bool) (a b : Image)
 used_stays sizes m flags a b q block unused area lt has writes = writes.outside block (omega (arith, area, lt)) (λ free. (unused block free).1 (q, has))
 
 -- the leaves that stand stay, while one other own page changes
-pub held_stays : (sizes : List ℕ) (m next : Maps) (flags less : List Bool) (q n : ℕ) (a b : Image) → IsSound m → AreUnused m flags → sum sizes ≡ length m.owner → OneOwn m next flags less q
-    → ((i : ℕ) → i < n → i + 1 ≢ q) → Writes sizes (IsFree flags) a b → LeavesHeld m n (block_at sizes a) → LeavesHeld next n (block_at sizes b)
+pub held_stays : (sizes : List ℕ) (m next : Maps) (flags less : List Bool) (q n : ℕ) (a b : Image) → IsSoundMaps m → AreUnused m flags → sum sizes ≡ length m.owner → OneOwn m next flags less q
+    → ((i : ℕ) → i < n → i + 1 ≢ q) → Writes sizes (IsFree flags) a b → HasLeavesBytes m n (block_at sizes a) → HasLeavesBytes next n (block_at sizes b)
 held_stays sizes m next flags less q n a b sound unused area one apart writes held i lt =
     let e : block_of next.frozen (i + 1) ≡ block_of m.frozen (i + 1) = ap (λ (x : ConverterEntry). x.block) (one.others (i + 1) (apart i lt)) in
     let same = used_stays sizes m flags a b (i + 1) (block_of m.frozen (i + 1)) unused area (sound.frozen_small (i + 1)).0 (inr (inr refl)) writes in
     leaf_moved m.frozen next.frozen m.conv next.conv i _ _ (ap (block_at sizes b) e ∙ same) one.own.conv (λ k less. one.own.pages (m.conv + 600 * i + k) (omega arith)) (held i lt)
 
-pub held_more : (m : Maps) (n : ℕ) (row : ℕ → List ℕ) → LeavesHeld m n row → LeafHeld m.frozen m.conv n (row (block_of m.frozen (n + 1))) → LeavesHeld m (n + 1) row
+pub held_more : (m : Maps) (n : ℕ) (row : ℕ → List ℕ) → HasLeavesBytes m n row → HasLeafBytes m.frozen m.conv n (row (block_of m.frozen (n + 1))) → HasLeavesBytes m (n + 1) row
 held_more m n row before here i lt = elim (cases_eq i n) [
-  | inl is ↦ subst (λ (j : ℕ). LeafHeld m.frozen m.conv j (row (block_of m.frozen (j + 1)))) (sym is) here
+  | inl is ↦ subst (λ (j : ℕ). HasLeafBytes m.frozen m.conv j (row (block_of m.frozen (j + 1)))) (sym is) here
   | inr other ↦ before i (omega (arith, lt, other))
 ]
 
 -- a leaf that did not change
-pub same_held : (m : Maps) (i : ℕ) (row : ℕ → List ℕ) → IsSameLeaf m i → block_of m.frozen (i + 1) ≡ block_of m.saved (i + 1) → LeafHeld m.saved m.conv i (row (block_of m.saved (i + 1)))
-    → LeafHeld m.frozen m.conv i (row (block_of m.frozen (i + 1)))
+pub same_held : (m : Maps) (i : ℕ) (row : ℕ → List ℕ) → IsSameLeaf m i → block_of m.frozen (i + 1) ≡ block_of m.saved (i + 1) → HasLeafBytes m.saved m.conv i (row (block_of m.saved (i + 1)))
+    → HasLeafBytes m.frozen m.conv i (row (block_of m.frozen (i + 1)))
 same_held m i row same block held = leaf_moved m.saved m.frozen m.conv m.conv i _ _ (ap row block) refl same.same held
 
 -- what the last savepoint's map had stays too
-pub saved_stays : (sizes : List ℕ) (m next : Maps) (flags : List Bool) (a b : Image) → IsSound m → AreUnused m flags → sum sizes ≡ length m.owner → OwnOnly m next → Writes sizes (IsFree flags) a b
+pub saved_stays : (sizes : List ℕ) (m next : Maps) (flags : List Bool) (a b : Image) → IsSoundMaps m → AreUnused m flags → sum sizes ≡ length m.owner → OwnOnly m next → Writes sizes (IsFree flags) a b
     → SavedLeaves m (block_at sizes a) → SavedLeaves next (block_at sizes b)
 saved_stays sizes m next flags a b sound unused area own writes saved j lt some =
     let e : block_of next.saved (j + 1) ≡ block_of m.saved (j + 1) = ap (λ (l : List ConverterEntry). block_of l (j + 1)) own.saved in

@@ -3,7 +3,8 @@ use Rattle.std.proofs.Common.{◌≡◌, ◌≢◌, ◌⊎◌, inl, inr, ℕ, ze
 use Rattle.std.proofs.lemmas.Bool.{cases_eq, cases_lt}
 use Rattle.std.proofs.lemmas.List.{get_or-set_same, get_or-set_other, get_or_past, ext_get_or}
 use Rattle.mdb_bytes.specs.declared.converter_pages.ConverterEntry.{ConverterEntry}
-use Rattle.converter.specs.Maps.{no_entry, entry_at, IsTracked}
+use Rattle.mdb_bytes.specs.Firsts.{no_entry}
+use Rattle.converter.specs.Maps.{entry_at, IsTracked}
 
 -- one place more of an array that a loop fills
 pub filled_more : {A : Type 0} (run : List A) (d : A) (f : ℕ → A) (n : ℕ) (x : A) → n < length run → ((k : ℕ) → k < n → get_or run k d ≡ f k) → x ≡ f n

@@ -6,7 +6,8 @@ use Rattle.std.proofs.lemmas.List.{get_or-set_same, get_or-set_other, get_or_pas
 use Rattle.free_blocks.specs.Free.{IsFree}
 use Rattle.mdb_bytes.specs.ConverterPages.{converter_entry_fits}
 use Rattle.mdb_bytes.specs.declared.converter_pages.ConverterEntry.{ConverterEntry}
-use Rattle.converter.specs.Maps.{Maps, no_entry, entry_at, block_of, HasAt, IsKept, IsUsed, IsOpenTo, AreSmall, IsSound, AreUnused, own_of, with_own, with_loaded}
+use Rattle.mdb_bytes.specs.Firsts.{no_entry}
+use Rattle.converter.specs.Maps.{Maps, entry_at, block_of, HasAt, IsKept, IsUsed, IsOpenTo, AreSmall, IsSoundMaps, AreUnused, own_of, with_own, with_loaded}
 
 -- an entry of a map in which one was set
 pub entry_set : (m : List ConverterEntry) (p q : ℕ) (e : ConverterEntry) → ((entry_at (set m p e) q ≡ e) × (q ≡ p)) ⊎ (entry_at (set m p e) q ≡ entry_at m q)
@@ -35,7 +36,7 @@ small_set conv n m p e small less stamp fits q = elim (entry_set m p q e) [
   | inr is ↦ subst (λ (x : ConverterEntry). (x.block < n) × (x.stamp < 2 ^ 62) × (conv ≤ q → IsTrue (converter_entry_fits x))) (sym is) (small q)
 ]
 
-pub cleared : (m : Maps) (p : ℕ) → m.conv ≤ p → IsSound m → IsSound record m { present = set m.present p no_entry }
+pub cleared : (m : Maps) (p : ℕ) → m.conv ≤ p → IsSoundMaps m → IsSoundMaps record m { present = set m.present p no_entry }
 cleared m p page sound = record {
   some = sound.some;
   bound = sound.bound;
@@ -66,7 +67,7 @@ cleared m p page sound = record {
 false_true : false ≡ true → ⊥
 false_true is = cc
 
-module _ (m : Maps) (b q : ℕ) (sound : IsSound m) (some : 0 < b) (place : q ≡ get_or m.owner b 0) where
+module _ (m : Maps) (b q : ℕ) (sound : IsSoundMaps m) (some : 0 < b) (place : q ≡ get_or m.owner b 0) where
   at_place : (p : ℕ) → HasAt m p b → p ≡ q
   at_place p has = sym (sound.owned p b some has) ∙ sym place
 
@@ -105,8 +106,8 @@ has_set m p q b e has = elim has [
   | inr kept ↦ inl (inr kept)
 ]
 
-pub set_sound : (m : Maps) (p : ℕ) (e : ConverterEntry) → m.conv ≤ p → IsSound m → 2 ≤ e.block → e.block < length m.owner → e.stamp < 2 ^ 62 → IsTrue (converter_entry_fits e) → IsOpenTo m e.block p
-    → IsSound record m { present = set m.present p e; owner = set m.owner e.block p }
+pub set_sound : (m : Maps) (p : ℕ) (e : ConverterEntry) → m.conv ≤ p → IsSoundMaps m → 2 ≤ e.block → e.block < length m.owner → e.stamp < 2 ^ 62 → IsTrue (converter_entry_fits e) → IsOpenTo m e.block p
+    → IsSoundMaps record m { present = set m.present p e; owner = set m.owner e.block p }
 set_sound m p e page sound low high stamp spelled alone =
     let fits : m.conv ≤ p → IsTrue (converter_entry_fits e) = λ le. spelled in
     let long : length (set m.owner e.block p) ≡ length m.owner = length-set m.owner e.block p in
@@ -142,7 +143,7 @@ set_sound m p e page sound low high stamp spelled alone =
       ];
     }
 
-pub frozen_sound : (m : Maps) (l : List ConverterEntry) (n : ℕ) → l ≡ m.present → IsSound m → IsSound record m { frozen = l; frozen_at = Some n }
+pub frozen_sound : (m : Maps) (l : List ConverterEntry) (n : ℕ) → l ≡ m.present → IsSoundMaps m → IsSoundMaps record m { frozen = l; frozen_at = Some n }
 frozen_sound m l n is sound = record {
   some = sound.some;
   bound = sound.bound;
@@ -173,8 +174,8 @@ none_there n q = elim (cases_lt q n) [
   | inr past ↦ get_or_past (replicate n no_entry) q no_entry (omega (arith, length-replicate n no_entry, past))
 ]
 
-pub settled_sound : (m : Maps) (s f : List ConverterEntry) (n : ℕ) → m.frozen_at ≡ Some n → s ≡ m.frozen → f ≡ replicate (length m.frozen) no_entry → IsSound m
-    → IsSound record m { saved = s; frozen = f; frozen_at = None }
+pub settled_sound : (m : Maps) (s f : List ConverterEntry) (n : ℕ) → m.frozen_at ≡ Some n → s ≡ m.frozen → f ≡ replicate (length m.frozen) no_entry → IsSoundMaps m
+    → IsSoundMaps record m { saved = s; frozen = f; frozen_at = None }
 settled_sound m s f n at is blank sound = record {
   some = sound.some;
   bound = sound.bound;
@@ -203,7 +204,7 @@ settled_sound m s f n at is blank sound = record {
     ]
 
 -- at two places of one map no block is the same
-pub saved_apart : (m : Maps) (l : List ConverterEntry) → l ≡ m.saved → IsSound m → (p q : ℕ) → 0 < block_of l p → block_of l p ≡ block_of l q → p ≡ q
+pub saved_apart : (m : Maps) (l : List ConverterEntry) → l ≡ m.saved → IsSoundMaps m → (p q : ℕ) → 0 < block_of l p → block_of l p ≡ block_of l q → p ≡ q
 saved_apart m l is sound p q some same =
     let a = sound.owned p (block_of l p) some (inr (inl (sym (ap (λ (x : List ConverterEntry). block_of x p) is)))) in
     let b = sound.owned q (block_of l p) some (inr (inl (sym (ap (λ (x : List ConverterEntry). block_of x q) is) ∙ sym same))) in
@@ -213,8 +214,8 @@ pub saved_taken : (m : Maps) (l : List ConverterEntry) (flags : List Bool) → l
 saved_taken m l flags is unused q some free = (unused (block_of l q) free).1 (q, inr (inl (sym (ap (λ (x : List ConverterEntry). block_of x q) is))))
 
 -- an own page of the converter was given a block that no map has
-pub own_sound : (m : Maps) (p n : ℕ) (e : ConverterEntry) → p < m.conv → m.frozen_at ≡ Some n → IsSound m → 2 ≤ e.block → e.block < length m.owner → e.stamp < 2 ^ 62 → (IsUsed m e.block → ⊥)
-    → IsSound (with_own m p e)
+pub own_sound : (m : Maps) (p n : ℕ) (e : ConverterEntry) → p < m.conv → m.frozen_at ≡ Some n → IsSoundMaps m → 2 ≤ e.block → e.block < length m.owner → e.stamp < 2 ^ 62 → (IsUsed m e.block → ⊥)
+    → IsSoundMaps (with_own m p e)
 own_sound m p n e page at sound low high stamp unused =
     let fits : m.conv ≤ p → IsTrue (converter_entry_fits e) = λ le. absurd (omega (arith, le, page)) in
     let long : length (set m.owner e.block p) ≡ length m.owner = length-set m.owner e.block p in
@@ -259,8 +260,8 @@ own_sound m p n e page at sound low high stamp unused =
         ])
 
 -- one of the places of the present and the last savepoint's map was given a block that no map has
-pub loaded_sound : (m : Maps) (p : ℕ) (e : ConverterEntry) → m.frozen_at ≡ None → IsSound m → 2 ≤ e.block → e.block < length m.owner → e.stamp < 2 ^ 62 → (m.conv ≤ p → IsTrue (converter_entry_fits e))
-    → p < m.conv + length m.owner → (IsUsed m e.block → ⊥) → IsSound (with_loaded m p e)
+pub loaded_sound : (m : Maps) (p : ℕ) (e : ConverterEntry) → m.frozen_at ≡ None → IsSoundMaps m → 2 ≤ e.block → e.block < length m.owner → e.stamp < 2 ^ 62 → (m.conv ≤ p → IsTrue (converter_entry_fits e))
+    → p < m.conv + length m.owner → (IsUsed m e.block → ⊥) → IsSoundMaps (with_loaded m p e)
 loaded_sound m p e none sound low high stamp fits place unused =
     let long : length (set m.owner e.block p) ≡ length m.owner = length-set m.owner e.block p in
     let small = λ (l : List ConverterEntry) (s : AreSmall m.conv (length m.owner) l). subst (λ (n : ℕ). AreSmall m.conv n l) (sym long) s in
@@ -305,7 +306,7 @@ loaded_sound m p e none sound low high stamp fits place unused =
 
 -- maps with no page
 pub blank_sound : (m : Maps) (n : ℕ) → 0 < length m.owner → length m.owner ≤ 65536 → m.conv ≡ 1 + (length m.owner + 599) / 600 → n ≡ m.conv + length m.owner
-    → m.present ≡ replicate n no_entry → m.saved ≡ replicate n no_entry → m.frozen ≡ replicate n no_entry → m.frozen_at ≡ None → IsSound m
+    → m.present ≡ replicate n no_entry → m.saved ≡ replicate n no_entry → m.frozen ≡ replicate n no_entry → m.frozen_at ≡ None → IsSoundMaps m
 blank_sound m n some bound leaves long present saved frozen none = record {
   some = some;
   bound = bound;

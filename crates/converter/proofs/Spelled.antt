@@ -2,39 +2,36 @@
 use Rattle.std.proofs.Common.{◌≡◌, ◌≢◌, inl, inr, ℕ, suc, ◌+◌, ◌<◌, ◌≤◌, ◌^◌, List, [], ◌∷◌, length, get_or, set, Bool, true, false, refl, ap, sym, subst, ◌∙◌, arith}
 use Rattle.std.specs.Prelude.{IsTrue, ◌&&◌, ◌==◌, nat_lt}
 use Rattle.std.specs.List.{list_all}
-use Rattle.std.proofs.lemmas.Bool.{cases_eq, cases_lt, lt-ltb, le-leb, eq-eqb, false≢true}
+use Rattle.std.proofs.lemmas.Bool.{cases_eq, cases_lt, lt-ltb, le-leb, eq-eqb, false≢true, and_from}
 use Rattle.std.proofs.lemmas.List.{get_or-set_same, get_or-set_other, get_or_past, set_past}
 use Rattle.free_blocks.specs.Free.{IsFree}
 use Rattle.mdb_bytes.specs.declared.converter_pages.ConverterEntry.{ConverterEntry}
 use Rattle.mdb_bytes.specs.declared.converter_pages.ConverterLeaf.{ConverterLeaf}
 use Rattle.mdb_bytes.specs.declared.converter_pages.ConverterRoot.{ConverterRoot}
 use Rattle.mdb_bytes.specs.Fields.{fields_fit}
-use Rattle.mdb_bytes.specs.Parts.{Keeps, page_room, word_format}
+use Rattle.mdb_bytes.specs.Parts.{KeepsLimits, page_room, word_format}
 use Rattle.mdb_bytes.specs.ConverterPages.{converter_entry_fits, converter_entry_fields, converter_leaf_fits, converter_leaf_front, converter_leaf_format, converter_root_fits, converter_root_front, converter_root_format}
 use Rattle.mdb_bytes.proofs.TableLaws.{room-section}
-use Rattle.converter.specs.Maps.{Maps, no_entry, entry_at, block_of, IsUsed, AreSmall, AreUnused, with_own}
-use Rattle.converter.specs.Tree.{Took}
-
--- two tests that hold
-both : (a b : Bool) → a ≡ true → b ≡ true → (a && b) ≡ true
-both a b x y = ap (λ t. t && b) x ∙ y
+use Rattle.mdb_bytes.specs.Firsts.{no_entry}
+use Rattle.converter.specs.Maps.{Maps, entry_at, block_of, IsUsed, AreSmall, AreUnused, with_own}
+use Rattle.converter.specs.Tree.{TakesBlock}
 
 -- two numbers within their limits
 two_fit : (a b m n : ℕ) → a < m → b < n → (nat_lt a m && (nat_lt b n && true)) ≡ true
-two_fit a b m n x y = both (nat_lt a m) (nat_lt b n && true) (lt-ltb a m x) (both (nat_lt b n) true (lt-ltb b n y) refl)
+two_fit a b m n x y = and_from (nat_lt a m) (nat_lt b n && true) (lt-ltb a m x) (and_from (nat_lt b n) true (lt-ltb b n y) refl)
 
 -- a test of each element
 all_pass : {A : Type 0} (p : A → Bool) (l : List A) (d : A) → ((k : ℕ) → k < length l → p (get_or l k d) ≡ true) → list_all p l ≡ true
 all_pass p [] d each = refl
-all_pass p (x ∷ xs) d each = both (p x) (list_all p xs) (each 0 (omega arith)) (all_pass p xs d (λ k lt. each (suc k) (omega (arith, lt))))
+all_pass p (x ∷ xs) d each = and_from (p x) (list_all p xs) (each 0 (omega arith)) (all_pass p xs d (λ k lt. each (suc k) (omega (arith, lt))))
 
 -- a leaf of entries that are those of the map
 pub leaf_keeps : (n at i savepoint : ℕ) (m entries : List ConverterEntry) → AreSmall at n m → (base : ℕ) → at ≤ base → n ≤ 65536 → i < 110 → savepoint < 2 ^ 62 → length entries ≡ 600
-    → ((k : ℕ) → k < 600 → entry_at entries k ≡ entry_at m (base + k)) → Keeps converter_leaf_format record { leaf = i; savepoint = savepoint; entries = entries }
+    → ((k : ℕ) → k < 600 → entry_at entries k ≡ entry_at m (base + k)) → KeepsLimits converter_leaf_format record { leaf = i; savepoint = savepoint; entries = entries }
 leaf_keeps n at i savepoint m entries small base le bound lt less long same =
     let v : ConverterLeaf = record { leaf = i; savepoint = savepoint; entries = entries } in
     let fits : converter_leaf_fits v ≡ true =
-    both (nat_lt i 110 && length entries == 600) (list_all converter_entry_fits entries) (both (nat_lt i 110) (length entries == 600) (lt-ltb i 110 lt) (eq-eqb (length entries) 600 long))
+    and_from (nat_lt i 110 && length entries == 600) (list_all converter_entry_fits entries) (and_from (nat_lt i 110) (length entries == 600) (lt-ltb i 110 lt) (eq-eqb (length entries) 600 long))
     (all_pass converter_entry_fits entries no_entry (λ k below.
     let e : entry_at entries k ≡ entry_at m (base + k) = same k (omega (arith, long, below)) in
     subst (λ (x : ConverterEntry). IsTrue (converter_entry_fits x)) (sym e) ((small (base + k)).2 (omega (arith, le))))) in
@@ -43,12 +40,12 @@ leaf_keeps n at i savepoint m entries small base le bound lt less long same =
     let e : entry_at entries k ≡ entry_at m (base + k) = same k (omega (arith, long, below)) in
     let s = small (base + k) in
     subst (λ (x : ConverterEntry). fields_fit (converter_entry_fields x) ≡ true) (sym e) (two_fit (entry_at m (base + k)).block (entry_at m (base + k)).stamp (2 ^ 32) (2 ^ 62) (omega (arith, s.0, bound)) s.1)) in
-    both (converter_leaf_fits v) (fields_fit (converter_leaf_format.fields v)) fits
-    (room-section converter_entry_fields 12 page_room (converter_leaf_front v) entries ∙ both (fields_fit (converter_leaf_front v)) (list_all (λ x. fields_fit (converter_entry_fields x)) entries) front room)
+    and_from (converter_leaf_fits v) (fields_fit (converter_leaf_format.fields v)) fits
+    (room-section converter_entry_fields 12 page_room (converter_leaf_front v) entries ∙ and_from (fields_fit (converter_leaf_front v)) (list_all (λ x. fields_fit (converter_entry_fields x)) entries) front room)
 
 -- a root of blocks that are those of the map
 pub root_keeps : (n conv savepoint : ℕ) (m : List ConverterEntry) (v : ConverterRoot) → AreSmall conv n m → n ≤ 65536 → conv ≤ 111 → savepoint < 2 ^ 62 → v.savepoint ≡ savepoint → length v.leaves.items + 1 ≡ conv
-    → ((k : ℕ) → k + 1 < conv → get_or v.leaves.items k 0 ≡ block_of m (k + 1)) → Keeps converter_root_format v
+    → ((k : ℕ) → k + 1 < conv → get_or v.leaves.items k 0 ≡ block_of m (k + 1)) → KeepsLimits converter_root_format v
 root_keeps n conv savepoint m v small bound few less is long same =
     let leaves = v.leaves.items in
     let fits : converter_root_fits v ≡ true = le-leb (length leaves) 110 (omega (arith, long, few)) in
@@ -56,9 +53,9 @@ root_keeps n conv savepoint m v small bound few less is long same =
     let room : list_all (λ x. fields_fit (word_format.fields x)) leaves ≡ true = all_pass (λ x. fields_fit (word_format.fields x)) leaves 0 (λ k below.
     let e : get_or leaves k 0 ≡ block_of m (k + 1) = same k (omega (arith, long, below)) in
     let s = small (k + 1) in
-    both (nat_lt (get_or leaves k 0) (2 ^ 32)) true (lt-ltb (get_or leaves k 0) (2 ^ 32) (omega (arith, e, s.0, bound))) refl) in
-    both (converter_root_fits v) (fields_fit (converter_root_format.fields v)) fits
-    (room-section word_format.fields 4 page_room (converter_root_front v) leaves ∙ both (fields_fit (converter_root_front v)) (list_all (λ x. fields_fit (word_format.fields x)) leaves) front room)
+    and_from (nat_lt (get_or leaves k 0) (2 ^ 32)) true (lt-ltb (get_or leaves k 0) (2 ^ 32) (omega (arith, e, s.0, bound))) refl) in
+    and_from (converter_root_fits v) (fields_fit (converter_root_format.fields v)) fits
+    (room-section word_format.fields 4 page_room (converter_root_front v) leaves ∙ and_from (fields_fit (converter_root_front v)) (list_all (λ x. fields_fit (word_format.fields x)) leaves) front room)
 
 -- a free block is one of the area
 pub free_below : (flags : List Bool) (b : ℕ) → IsFree flags b → b < length flags
@@ -68,7 +65,7 @@ free_below flags b is = elim (cases_lt b (length flags)) [
 ]
 
 -- what is left is unused, after an own page took a free block
-pub still_unused : (old new : Maps) (flags next : List Bool) (q savepoint b : ℕ) → AreUnused old flags → Took old new flags next q savepoint b → AreUnused new next
+pub still_unused : (old new : Maps) (flags next : List Bool) (q savepoint b : ℕ) → AreUnused old flags → TakesBlock old new flags next q savepoint b → AreUnused new next
 still_unused old new flags next q savepoint b unused took c free =
     let back : c ≢ b = λ is. not_itself (subst (λ (x : ℕ). IsFree (set flags b false) x) is (subst (λ (l : List Bool). IsFree l c) took.less free)) in
     let was : IsFree flags c = sym (get_or-set_other flags b c false false back) ∙ subst (λ (l : List Bool). IsFree l c) took.less free in

@@ -4,11 +4,11 @@
 --     named      the damage of a block
 --     BreaksPlace, BreaksRoot, BreaksRow, BreaksLeaf, BreaksPages, Breaks      the first rule that
 --         is broken, and where
---     Admitted, IsRefused      entries that were taken into the maps one after the other
---     Tells      what a fault says of the bytes
---     row_of, TakesLeaf, RefusesLeaf, IsUnderWay      the steps of a load
-use Rattle.std.specs.Prelude.{◌≡◌, ◌⊎◌, ℕ, ◌+◌, ◌*◌, ◌<◌, ◌≤◌}
-use Rattle.std.specs.Prelude.{List, length, get_or, replicate, None}
+--     Admitted, IsEntryRefused      entries that were taken into the maps one after the other
+--     FaultReports      what a fault says of the bytes
+--     row_of, TakesLeaf, RefusesLeaf, IsUnderWay, ReadsMap      the steps of a load
+use Rattle.std.specs.Prelude.{◌≡◌, ◌⊎◌, ℕ, ◌+◌, ◌-◌, ◌*◌, ◌<◌, ◌≤◌}
+use Rattle.std.specs.Prelude.{List, length, get_or, replicate, None, Result, OnOk, IfErr}
 use Rattle.mdb_model.specs.declared.fault.Damage.{Damage}
 use Rattle.mdb_model.specs.declared.fault.Device.TheVariants.{Data}
 use Rattle.mdb_model.specs.declared.fault.PageFault.{PageFault}
@@ -19,9 +19,10 @@ use Rattle.mdb_model.specs.declared.fault.Rule.TheVariants.{ConverterLeaf as Lea
 use Rattle.mdb_bytes.specs.declared.converter_pages.ConverterEntry.{ConverterEntry}
 use Rattle.mdb_bytes.specs.declared.converter_pages.ConverterLeaf.{ConverterLeaf}
 use Rattle.mdb_bytes.specs.declared.converter_pages.ConverterRoot.{ConverterRoot}
+use Rattle.mdb_bytes.specs.Firsts.{no_entry}
 use Rattle.volume_disk.specs.Blocks.{place}
-use Rattle.converter.specs.Maps.{Maps, no_entry, entry_at, block_of}
-use Rattle.converter.specs.Tree.{IsLeafOf, IsRootOf, LeafHeld, RootHeld}
+use Rattle.converter.specs.Maps.{Maps, entry_at, block_of}
+use Rattle.converter.specs.Tree.{IsLeafOf, IsRootOf, HasLeafBytes, HasRootBytes}
 
 -- the first two blocks hold the restart record, and n blocks are all
 abbrev pub IsOff : (n b : ℕ) → Type 0
@@ -33,8 +34,8 @@ pub record IsRead (conv n root : ℕ) (row : ℕ → List ℕ) (i : ℕ)
     (l : List ConverterEntry) : Type 0 where
   pub long : length l ≡ conv + n
   pub at : block_of l 0 ≡ root
-  pub held : RootHeld l conv (row root)
-  pub leaves : (j : ℕ) → j < i → LeafHeld l conv j (row (block_of l (j + 1)))
+  pub held : HasRootBytes l conv (row root)
+  pub leaves : (j : ℕ) → j < i → HasLeafBytes l conv j (row (block_of l (j + 1)))
   pub rest : (q : ℕ) → conv + 600 * i ≤ q → entry_at l q ≡ no_entry
   pub own : (q : ℕ) → q < conv → 1 < block_of l q
   pub placed : (q : ℕ) → 0 < block_of l q → IsOff n (block_of l q) → ⊥
@@ -124,16 +125,16 @@ pub record Admitted (old now : Maps) (at : ℕ) (entries : ℕ → ConverterEntr
   pub others : (q : ℕ) → (q < at) ⊎ (at + n ≤ q) → entry_at now.saved q ≡ entry_at old.saved q
 
 -- entry k has a block that is off the area, that the map had, or that an entry before has
-abbrev pub IsRefused : (old : Maps) (entries : ℕ → ConverterEntry) (k : ℕ) → Type 0
-IsRefused old entries k =
+abbrev pub IsEntryRefused : (old : Maps) (entries : ℕ → ConverterEntry) (k : ℕ) → Type 0
+IsEntryRefused old entries k =
     IsOff (length old.owner) (entries k).block
     ⊎ (((q : ℕ) × (block_of old.saved q ≡ (entries k).block))
     ⊎ ((j : ℕ) × (j < k) × ((entries j).block ≡ (entries k).block)))
 
 -- what a fault says of the bytes that were read
-abbrev pub Tells : (Damage → Type 0) → PageFault → Type 0
-Tells broken Failed = Unit {0}
-Tells broken (Damaged damage) = broken damage
+abbrev pub FaultReports : (Damage → Type 0) → PageFault → Type 0
+FaultReports broken Failed = Unit {0}
+FaultReports broken (Damaged damage) = broken damage
 
 -- the blocks of the leaves that a root names, as entries
 abbrev pub row_of : ConverterRoot → ℕ → ConverterEntry
@@ -152,7 +153,7 @@ RefusesLeaf sizes old i bytes damage =
     × (damage ≡ named sizes (block_of old.saved (i + 1)) LeafRule))
     ⊎ ((value : ConverterLeaf) × IsLeafOf (length old.owner) i bytes value
     × ((k : ℕ) × (k < 600) × (0 < block_of value.entries k)
-    × IsRefused old (entry_at value.entries) k)
+    × IsEntryRefused old (entry_at value.entries) k)
     × (damage ≡ named sizes (block_of old.saved (i + 1)) Block))
 
 -- the maps have the root and the first i leaves, as far as they are known, and a block for each
@@ -166,6 +167,14 @@ pub record IsUnderWay (tells : Type 0) (first now : Maps) (root : ℕ) (row : �
   pub some : 1 < root
   pub placed : (j : ℕ) → j + 1 < now.conv → 1 < block_of now.saved (j + 1)
   pub rest : (q : ℕ) → now.conv + 600 * i ≤ q → entry_at now.saved q ≡ no_entry
-  pub held : tells → RootHeld now.saved now.conv (row root)
+  pub held : tells → HasRootBytes now.saved now.conv (row root)
   pub leaves : tells → (j : ℕ) → j < i
-      → LeafHeld now.saved now.conv j (row (block_of now.saved (j + 1)))
+      → HasLeafBytes now.saved now.conv j (row (block_of now.saved (j + 1)))
+
+-- all leaves were read, or a block is at fault
+pub record ReadsMap (tells : Type 0) (sizes : List ℕ) (root : ℕ) (row : ℕ → List ℕ) (old new : Maps)
+    (result : Result (Unit {0}) PageFault) : Type 0 where
+  pub read : OnOk result (IsUnderWay tells old new root row (old.conv - 1))
+  pub broken : IfErr result
+      (FaultReports (λ damage. tells → Breaks sizes old.conv (length old.owner) root row damage))
+  pub size : length new.owner ≡ length old.owner

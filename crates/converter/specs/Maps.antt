@@ -1,14 +1,14 @@
 -- The maps from pages to blocks. A map is one list of entries: first the converter's own pages, the
 -- root and then the leaves, and after them the logical pages.
---     no_entry, entry_at, block_of      the entry of a place
+--     entry_at, block_of      the entry of a place
 --     Maps      the present map, that of the last savepoint, the frozen one, and a table of their
 --         blocks
 --     IsKept, IsUsed, IsOpenTo      which maps have a block
---     IsSound      what holds of the maps at any time
+--     IsSoundMaps      what holds of the maps at any time
 --     AreUnused      no free block is one that a map has
---     Leaves, Given      what a settled savepoint frees
---     empty_maps, with_own, with_loaded, settled      maps after a call
---     shown, IsTracked, IsFollowed      how maps are kept in memory
+--     Leaves, FreesLeaving      what a settled savepoint frees
+--     empty_maps, with_own, with_loaded, frozen_as_saved      maps after a call
+--     shown_frozen, IsTracked, IsFollowed      how maps are kept in memory
 use Rattle.std.specs.Prelude.{◌≡◌, ◌≢◌, ◌⊎◌, ℕ, ◌+◌, ◌*◌, ◌/◌, ◌<◌, ◌≤◌, ◌^◌}
 use Rattle.std.specs.Prelude.{List, length, get_or, replicate, Option, None, Some, Bool, true}
 use Rattle.std.specs.Prelude.{false, IsTrue, slice_set}
@@ -16,10 +16,7 @@ use Rattle.free_blocks.specs.Free.{IsFree}
 use Rattle.free_blocks.specs.Marked.{IsMarked}
 use Rattle.mdb_bytes.specs.ConverterPages.{converter_entry_fits}
 use Rattle.mdb_bytes.specs.declared.converter_pages.ConverterEntry.{ConverterEntry}
-
--- no page
-abbrev pub no_entry : ConverterEntry
-no_entry = record { block = 0; stamp = 0 }
+use Rattle.mdb_bytes.specs.Firsts.{no_entry}
 
 -- the entry of a place
 abbrev pub entry_at : List ConverterEntry → ℕ → ConverterEntry
@@ -74,7 +71,7 @@ own_of None saved frozen = saved
 own_of (Some n) saved frozen = frozen
 
 -- three maps of one length, in which each block has one place; the numbers are those of src/maps.rt
-pub record IsSound (m : Maps) : Type 0 where
+pub record IsSoundMaps (m : Maps) : Type 0 where
   -- (1)
   pub some : 0 < length m.owner
   pub bound : length m.owner ≤ 65536
@@ -113,7 +110,7 @@ abbrev pub Leaves : Maps → List (List Bool) → ℕ → ℕ → Type 0
 Leaves m marks = LeavesIn m.present m.saved m.frozen marks
 
 -- those were freed that leave at a place from `at` on, up to `end`
-pub record Given (leaves : ℕ → ℕ → Type 0) (at end : ℕ) (old new : List Bool) : Type 0 where
+pub record FreesLeaving (leaves : ℕ → ℕ → Type 0) (at end : ℕ) (old new : List Bool) : Type 0 where
   pub long : length new ≡ length old
   pub stays : (b : ℕ) → IsFree old b → IsFree new b
   pub given : (k b : ℕ) → at ≤ k → k < end → leaves k b → IsFree new b
@@ -154,16 +151,16 @@ with_loaded m q e =
     }
 
 -- the frozen map is that of the last savepoint
-abbrev pub settled : Maps → Maps
-settled m =
+abbrev pub frozen_as_saved : Maps → Maps
+frozen_as_saved m =
     record m { saved = m.frozen; frozen = replicate (length m.frozen) no_entry; frozen_at = None }
 
 -- In memory
 
 -- the frozen map: none where no map is frozen, whatever the room for it holds
-abbrev pub shown : Option ℕ → List ConverterEntry → List ConverterEntry
-shown None room = replicate (length room) no_entry
-shown (Some n) room = room
+abbrev pub shown_frozen : Option ℕ → List ConverterEntry → List ConverterEntry
+shown_frozen None room = replicate (length room) no_entry
+shown_frozen (Some n) room = room
 
 -- where no flag says that a leaf is behind, the map has there what the present one has
 abbrev pub IsTracked : (conv : ℕ) (present kept : List ConverterEntry) (behind : List Bool) → Type 0
@@ -174,7 +171,7 @@ IsTracked conv present kept behind =
 -- what is kept of the maps in memory
 pub record IsFollowed (m : Maps) (room : List ConverterEntry)
     (saved_behind room_behind : List Bool) : Type 0 where
-  pub sound : IsSound m
+  pub sound : IsSoundMaps m
   pub saved_flags : length saved_behind ≡ 110
   pub room_flags : length room_behind ≡ 110
   pub room_long : length room ≡ m.conv + length m.owner

@@ -1,8 +1,9 @@
 //! A map that is kept while the present one goes on.
 ghost use Rattle.std.specs.Prelude.{◌≡◌, ◌⊎◌, ◌↔◌, ℕ, ◌+◌, ◌*◌, ◌/◌, ◌<◌, ◌≤◌, ◌^◌};
 ghost use Rattle.std.specs.Prelude.{length, replicate, get_or, IsTrue, true, false};
+ghost use Rattle.mdb_bytes.specs.Firsts.{no_entry};
 ghost use Rattle.free_blocks.specs.Free.{IsFree};
-ghost use Rattle.converter.specs.Maps.{no_entry, entry_at, block_of, LeavesIn, Given, IsTracked};
+ghost use Rattle.converter.specs.Maps.{entry_at, block_of, LeavesIn, FreesLeaving, IsTracked};
 
 use free_blocks::{FreeBlocks, Marks};
 use mdb_bytes::ConverterEntry;
@@ -23,18 +24,22 @@ pub(crate) struct KeptMap {
 }
 
 /// The entry at a place, or none past the end.
-pub(crate) fn entry_of(map: &[ConverterEntry], q: usize) -> ConverterEntry
-    ensures { result ≡ entry_at map.now q }
+pub(crate) fn entry_of(map: &[ConverterEntry], place: usize) -> ConverterEntry
+    ensures { result ≡ entry_at map.now place }
 {
-    if q < map.len() { map[q] } else { NO_ENTRY }
+    if place < map.len() {
+        map[place]
+    } else {
+        NO_ENTRY
+    }
 }
 
 /// Whether the map has the block at this place.
-pub(crate) fn is_at(map: &[ConverterEntry], q: usize, b: u32) -> bool
-    requires { 0 < b }
-    ensures { IsTrue result ↔ (block_of map.now q ≡ b) }
+pub(crate) fn is_at(map: &[ConverterEntry], place: usize, block: u32) -> bool
+    requires { 0 < block }
+    ensures { IsTrue result ↔ (block_of map.now place ≡ block) }
 {
-    entry_of(map, q).block == b
+    entry_of(map, place).block == block
 }
 
 /// The entries of 600 places from one on.
@@ -121,17 +126,17 @@ fn is_left(
     present: &[ConverterEntry],
     saved: &[ConverterEntry],
     frozen: &[ConverterEntry],
-    k: usize,
+    place: usize,
 ) -> bool
     requires long { (length present.now ≡ length saved.now)
         × (length frozen.now ≡ length saved.now) }
-    requires place { k < length saved.now }
-    requires small { block_of saved.now k < length marks.now }
+    requires place { place < length saved.now }
+    requires small { block_of saved.now place < length marks.now }
     ensures { IsTrue result
-        ↔ LeavesIn present.now saved.now frozen.now marks.now k (block_of saved.now k) }
+        ↔ LeavesIn present.now saved.now frozen.now marks.now place (block_of saved.now place) }
 {
-    let b = saved[k].block;
-    b != 0 && present[k].block != b && frozen[k].block != b && !marks.marked(b)
+    let b = saved[place].block;
+    b != 0 && present[place].block != b && frozen[place].block != b && !marks.marked(b)
 }
 
 // Frees each block that only the last savepoint's map has, in the places from one on, up to
@@ -154,7 +159,8 @@ fn give_run(
         → block_of saved.now p ≡ block_of saved.now q → p ≡ q }
     requires taken { (q : ℕ) → at ≤ q → 0 < block_of saved.now q
         → IsFree free.old (block_of saved.now q) → ⊥ }
-    ensures { Given (LeavesIn present.now saved.now frozen.now marks.now) at end free.old free.new }
+    ensures { FreesLeaving (LeavesIn present.now saved.now frozen.now marks.now) at end free.old
+        free.new }
 {
     for k in at..end.min(saved.len()) {
         if is_left(marks, present, saved, frozen, k) {
@@ -185,7 +191,7 @@ fn give_leaf(
     requires tracked { get_or saved.now.behind leaf true ≡ false → (k : ℕ) → k < 600
         → entry_at saved.now.entries.items (at + k) ≡ entry_at present.now (at + k) }
     // The result.
-    ensures { Given (LeavesIn present.now saved.now.entries.items frozen.now marks.now) at
+    ensures { FreesLeaving (LeavesIn present.now saved.now.entries.items frozen.now marks.now) at
         (at + 600) free.old free.new }
 {
     if saved.behind[leaf] {
@@ -213,7 +219,7 @@ pub(crate) fn give_left(
         → IsFree free.old (block_of saved.now.entries.items q) → ⊥ }
     requires tracked { IsTracked conv present.now saved.now.entries.items saved.now.behind }
     // The result.
-    ensures { Given (LeavesIn present.now saved.now.entries.items frozen.now marks.now) 0
+    ensures { FreesLeaving (LeavesIn present.now saved.now.entries.items frozen.now marks.now) 0
         (length saved.now.entries.items) free.old free.new }
 {
     give_run(free, marks, present, &saved.entries, frozen, 0, conv);

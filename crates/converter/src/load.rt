@@ -3,15 +3,17 @@ ghost use Rattle.std.specs.Prelude.{◌≡◌, ◌⊎◌, ◌↔◌, ℕ, ◌+�
 ghost use Rattle.std.specs.Prelude.{List, length, sum, replicate, get_or, IfOk, IfErr, OnOk, OnErr};
 ghost use Rattle.std.specs.Prelude.{Err, IsTrue, MatchOption, None};
 ghost use Rattle.mdb_model.specs.Causes.{Rose};
-ghost use Rattle.mdb_host.specs.Disk.{Disk, Goes, Agree};
+ghost use Rattle.mdb_host.specs.Disk.{Disk};
+ghost use Rattle.mdb_host.specs.Reads.{ReadsOnly};
 ghost use Rattle.mdb_bytes.specs.ConverterPages.{converter_entry_fits};
+ghost use Rattle.mdb_bytes.specs.Firsts.{no_entry};
 ghost use Rattle.volume_disk.specs.Blocks.{IsArea, block_at};
-ghost use Rattle.converter.specs.Maps.{Maps, IsSound, no_entry, entry_at, block_of, IsUsed};
+ghost use Rattle.converter.specs.Maps.{Maps, IsSoundMaps, entry_at, block_of, IsUsed};
 ghost use Rattle.converter.specs.Maps.{empty_maps, with_loaded};
 ghost use Rattle.converter.specs.Tree.{IsLeafOf, IsRootOf};
 ghost use Rattle.converter.specs.Loads.{IsOff, IsRead, IsLoading, named, BreaksRoot, BreaksRow};
-ghost use Rattle.converter.specs.Loads.{Breaks, Admitted, IsRefused, Tells, row_of, TakesLeaf};
-ghost use Rattle.converter.specs.Loads.{RefusesLeaf, IsUnderWay};
+ghost use Rattle.converter.specs.Loads.{Breaks, Admitted, IsEntryRefused, FaultReports, row_of, TakesLeaf};
+ghost use Rattle.converter.specs.Loads.{RefusesLeaf, IsUnderWay, ReadsMap};
 
 use crate::kept::{NO_ENTRY, PAGES};
 use crate::maps::Converter;
@@ -24,11 +26,11 @@ use mdb_model::limits::PAGE_BYTES;
 use volume_disk::Volumes;
 
 // A rule that a block breaks.
-fn broken(volumes: &Volumes, b: u32, rule: Rule) -> PageFault
-    requires { b < sum volumes.now }
-    ensures { result ≡ PageFault.Damaged (named volumes.now b rule) }
+fn broken(volumes: &Volumes, block: u32, rule: Rule) -> PageFault
+    requires { block < sum volumes.now }
+    ensures { result ≡ PageFault.Damaged (named volumes.now block rule) }
 {
-    let (volume, page) = volumes.place_of(b);
+    let (volume, page) = volumes.place_of(block);
     PageFault::Damaged(Damage {
         device: Device::Data(volume),
         page,
@@ -93,17 +95,14 @@ fn read_root<H: Host>(
         (λ value. (bytes : List ℕ) × IsRootOf (leaves + 1) bytes value
         × (H.tells → bytes ≡ block_at volumes.now (H.disk host.old).seen root)) }
     ensures broken { IfErr result
-        (Tells
+        (FaultReports
         (λ damage. H.tells
         → BreaksRoot volumes.now (leaves + 1) root
         (block_at volumes.now (H.disk host.old).seen) damage)) }
     // The devices.
-    ensures calm { H.tells → Goes (H.disk host.old) (H.disk host.new) Agree }
-    ensures seen { H.tells → Agree (H.disk host.old).seen (H.disk host.new).seen }
+    ensures reads { ReadsOnly H.Host host.old host.new }
     // The faults.
-    ensures later { H.faults host.old ≤ H.faults host.new }
     ensures cause { result ≡ Err PageFault.Failed → Rose (H.faults host.old) (H.faults host.new) }
-    ensures say_faults { H.say_faults host.new ≡ H.say_faults host.old }
 {
     let mut page = [0u8; PAGE_BYTES];
     let Ok(()) = volumes.read_block(host, root, &mut page) else {
@@ -118,18 +117,18 @@ fn read_root<H: Host>(
 impl Converter {
     // Puts a page where it stands, in the present map and in that of the last savepoint; a block
     // off the area or one that serves another page is refused, and nothing changes.
-    fn admit(&mut self, q: usize, entry: ConverterEntry) -> bool
-        requires place { q < self.old.conv + length self.old.owner }
+    fn admit(&mut self, place: usize, entry: ConverterEntry) -> bool
+        requires place { place < self.old.conv + length self.old.owner }
         requires loading { IsLoading self.old }
         requires stamp { entry.stamp < 2 ^ 62 }
-        requires fits { self.old.conv ≤ q → IsTrue (converter_entry_fits entry) }
+        requires fits { self.old.conv ≤ place → IsTrue (converter_entry_fits entry) }
         ensures taken { IsTrue result
             → (IsOff (length self.old.owner) entry.block → ⊥) × (IsUsed self.old entry.block → ⊥)
-            × (self.new ≡ with_loaded self.old q entry) }
+            × (self.new ≡ with_loaded self.old place entry) }
         ensures refused { (IsTrue result → ⊥)
             → (IsOff (length self.old.owner) entry.block ⊎ IsUsed self.old entry.block)
             × (self.new ≡ self.old) }
-        ensures sound { IsSound self.old }
+        ensures sound { IsSoundMaps self.old }
     {
         let blocks = self.blocks();
         let b = entry.block;
@@ -139,7 +138,7 @@ impl Converter {
         if self.uses(b) {
             return false;
         }
-        self.place(q, entry);
+        self.place(place, entry);
         true
     }
 
@@ -154,7 +153,7 @@ impl Converter {
             → 1 < get_or root.now.leaves.items k 0 }
         ensures refused { (IsTrue result → ⊥)
             → (k : ℕ) × (k < length root.now.leaves.items)
-            × IsRefused self.old (row_of root.now) k }
+            × IsEntryRefused self.old (row_of root.now) k }
         ensures area { length self.new.owner ≡ length self.old.owner }
     {
         for k in 0..root.leaves.len() {
@@ -184,7 +183,7 @@ impl Converter {
             → Admitted self.old self.new (self.old.conv + 600 * leaf) (entry_at entries.now) 600 }
         ensures refused { (IsTrue result → ⊥)
             → (k : ℕ) × (k < 600) × (0 < block_of entries.now k)
-            × IsRefused self.old (entry_at entries.now) k }
+            × IsEntryRefused self.old (entry_at entries.now) k }
         ensures area { length self.new.owner ≡ length self.old.owner }
     {
         let at = 1 + self.leaves() as usize + PAGES * leaf as usize;
@@ -217,22 +216,19 @@ impl Converter {
             ≡ block_at volumes.now (H.disk host.old).seen
             (block_of self.old.saved (leaf + 1)))) }
         ensures broken { IfErr result
-            (Tells
+            (FaultReports
             (λ damage. H.tells
             → RefusesLeaf volumes.now self.old leaf
             (block_at volumes.now (H.disk host.old).seen
             (block_of self.old.saved (leaf + 1)))
             damage)) }
         ensures size { length self.new.owner ≡ length self.old.owner }
-        ensures sound { IsSound self.old }
+        ensures sound { IsSoundMaps self.old }
         // The devices.
-        ensures calm { H.tells → Goes (H.disk host.old) (H.disk host.new) Agree }
-        ensures seen { H.tells → Agree (H.disk host.old).seen (H.disk host.new).seen }
+        ensures reads { ReadsOnly H.Host host.old host.new }
         // The faults.
-        ensures later { H.faults host.old ≤ H.faults host.new }
         ensures cause { result ≡ Err PageFault.Failed
             → Rose (H.faults host.old) (H.faults host.new) }
-        ensures say_faults { H.say_faults host.new ≡ H.say_faults host.old }
     {
         let blocks = self.blocks();
         let b = self.own_block(leaf + 1);
@@ -262,23 +258,13 @@ impl Converter {
         requires area { sum volumes.now ≡ length self.old.owner }
         requires there { H.tells → IsArea volumes.now (H.disk host.old).seen }
         // The result.
-        ensures read { OnOk result
-            (IsUnderWay H.tells self.old self.new root (block_at volumes.now (H.disk host.old).seen)
-            (self.old.conv - 1)) }
-        ensures broken { IfErr result
-            (Tells
-            (λ damage. H.tells
-            → Breaks volumes.now self.old.conv (length self.old.owner) root
-            (block_at volumes.now (H.disk host.old).seen) damage)) }
-        ensures size { length self.new.owner ≡ length self.old.owner }
+        ensures map { ReadsMap H.tells volumes.now root
+            (block_at volumes.now (H.disk host.old).seen) self.old self.new result }
         // The devices.
-        ensures calm { H.tells → Goes (H.disk host.old) (H.disk host.new) Agree }
-        ensures seen { H.tells → Agree (H.disk host.old).seen (H.disk host.new).seen }
+        ensures reads { ReadsOnly H.Host host.old host.new }
         // The faults.
-        ensures later { H.faults host.old ≤ H.faults host.new }
         ensures cause { result ≡ Err PageFault.Failed
             → Rose (H.faults host.old) (H.faults host.new) }
-        ensures say_faults { H.say_faults host.new ≡ H.say_faults host.old }
     {
         for leaf in 0..self.leaves() {
             self.load_leaf(host, volumes, leaf)?;
@@ -297,23 +283,13 @@ impl Converter {
         requires area { sum volumes.now ≡ length self.old.owner }
         requires there { H.tells → IsArea volumes.now (H.disk host.old).seen }
         // The result.
-        ensures read { OnOk result
-            (IsUnderWay H.tells self.old self.new root (block_at volumes.now (H.disk host.old).seen)
-            (self.old.conv - 1)) }
-        ensures broken { IfErr result
-            (Tells
-            (λ damage. H.tells
-            → Breaks volumes.now self.old.conv (length self.old.owner) root
-            (block_at volumes.now (H.disk host.old).seen) damage)) }
-        ensures size { length self.new.owner ≡ length self.old.owner }
+        ensures map { ReadsMap H.tells volumes.now root
+            (block_at volumes.now (H.disk host.old).seen) self.old self.new result }
         // The devices.
-        ensures calm { H.tells → Goes (H.disk host.old) (H.disk host.new) Agree }
-        ensures seen { H.tells → Agree (H.disk host.old).seen (H.disk host.new).seen }
+        ensures reads { ReadsOnly H.Host host.old host.new }
         // The faults.
-        ensures later { H.faults host.old ≤ H.faults host.new }
         ensures cause { result ≡ Err PageFault.Failed
             → Rose (H.faults host.old) (H.faults host.new) }
-        ensures say_faults { H.say_faults host.new ≡ H.say_faults host.old }
     {
         let blocks = self.blocks();
         let leaves = self.leaves();
@@ -349,6 +325,7 @@ impl Converter {
     ) -> Result<(), PageFault>
         requires area { sum volumes.now ≡ length self.old.owner }
         requires there { H.tells → IsArea volumes.now (H.disk host.old).seen }
+        // The result.
         ensures maps { OnOk result
             (self.new
             ≡ record (empty_maps (length self.old.owner) self.new.owner)
@@ -358,6 +335,7 @@ impl Converter {
             → IsRead self.new.conv (length self.new.owner) root
             (block_at volumes.now (H.disk host.old).seen) (self.new.conv - 1)
             self.new.saved) }
+        ensures own { OnOk result ((q : ℕ) → q < self.new.conv → 1 < block_of self.new.saved q) }
         ensures whole { OnOk result
             (H.tells → (damage : Damage)
             → Breaks volumes.now self.new.conv (length self.new.owner) root
@@ -366,17 +344,16 @@ impl Converter {
         ensures empty { OnErr result
             (self.new ≡ empty_maps (length self.old.owner) self.new.owner) }
         ensures broken { IfErr result
-            (Tells
+            (FaultReports
             (λ damage. H.tells
             → Breaks volumes.now self.new.conv (length self.old.owner) root
             (block_at volumes.now (H.disk host.old).seen) damage)) }
         ensures size { length self.new.owner ≡ length self.old.owner }
-        ensures calm { H.tells → Goes (H.disk host.old) (H.disk host.new) Agree }
-        ensures seen { H.tells → Agree (H.disk host.old).seen (H.disk host.new).seen }
-        ensures later { H.faults host.old ≤ H.faults host.new }
+        // The devices.
+        ensures reads { ReadsOnly H.Host host.old host.new }
+        // The faults.
         ensures cause { result ≡ Err PageFault.Failed
             → Rose (H.faults host.old) (H.faults host.new) }
-        ensures say_faults { H.say_faults host.new ≡ H.say_faults host.old }
     {
         self.empty();
         let read = self.read_map(host, volumes, root);

@@ -1,4 +1,4 @@
-//! The maps from pages to blocks. What holds of them at any time (`IsSound`, `IsFollowed`):
+//! The maps from pages to blocks. What holds of them at any time (`IsSoundMaps`, `IsFollowed`):
 //!
 //! 1. The area has 1 to 65,536 blocks. The converter has a root and a leaf for each 600 of them.
 //! 2. The three maps have one length: the own pages of the converter, and a place for each block.
@@ -13,11 +13,12 @@ ghost use Rattle.std.specs.Prelude.{length, replicate, IfOk, IsSome, IsTrue, Mat
 ghost use Rattle.std.specs.Prelude.{None, slice_set, false};
 ghost use Rattle.mdb_model.specs.declared.limits.TheConstants.{MOST_BLOCKS};
 ghost use Rattle.free_blocks.specs.Free.{IsFree, free_count};
-ghost use Rattle.converter.specs.Maps.{Maps, IsSound, no_entry, entry_at, block_of, IsKept, IsUsed};
-ghost use Rattle.converter.specs.Maps.{IsOpenTo, AreUnused, Leaves, Given, empty_maps, with_own};
-ghost use Rattle.converter.specs.Maps.{with_loaded, settled, own_of};
+ghost use Rattle.converter.specs.Maps.{Maps, IsSoundMaps, entry_at, block_of, IsKept, IsUsed};
+ghost use Rattle.converter.specs.Maps.{IsOpenTo, AreUnused, Leaves, FreesLeaving, empty_maps, with_own};
+ghost use Rattle.converter.specs.Maps.{with_loaded, frozen_as_saved, own_of};
 ghost use Rattle.mdb_bytes.specs.ConverterPages.{converter_entry_fits};
-ghost use Rattle.converter.specs.Tree.{Took, IsSameLeaf};
+ghost use Rattle.mdb_bytes.specs.Firsts.{no_entry};
+ghost use Rattle.converter.specs.Tree.{TakesBlock, IsSameLeaf};
 ghost use Rattle.converter.specs.Loads.{IsOff, IsLoading};
 
 use crate::kept::{
@@ -47,7 +48,7 @@ pub struct Converter {
 }
 
 impl Model for Converter {
-    ghost use Rattle.converter.specs.Maps.{Maps, IsFollowed, shown};
+    ghost use Rattle.converter.specs.Maps.{Maps, IsFollowed, shown_frozen};
 
     ghost Value = { Maps };
 
@@ -55,7 +56,7 @@ impl Model for Converter {
       conv = s.conv;
       present = s.present.items;
       saved = s.saved.entries.items;
-      frozen = shown s.frozen_at s.frozen.entries.items;
+      frozen = shown_frozen s.frozen_at s.frozen.entries.items;
       owner = s.owner.items;
       frozen_at = s.frozen_at;
     } };
@@ -65,7 +66,7 @@ impl Model for Converter {
           conv = s.conv;
           present = s.present.items;
           saved = s.saved.entries.items;
-          frozen = shown s.frozen_at s.frozen.entries.items;
+          frozen = shown_frozen s.frozen_at s.frozen.entries.items;
           owner = s.owner.items;
           frozen_at = s.frozen_at;
         }
@@ -193,26 +194,26 @@ impl Converter {
 
     /// Whether the last savepoint's or the frozen map has the block, for a page or for a page of
     /// the converter.
-    pub fn kept(&self, b: u32) -> bool
-        requires some { 0 < b }
-        requires below { b < length self.now.owner }
-        ensures { IsTrue result ↔ IsKept self.now b }
+    pub fn kept(&self, block: u32) -> bool
+        requires some { 0 < block }
+        requires below { block < length self.now.owner }
+        ensures { IsTrue result ↔ IsKept self.now block }
     {
-        let q = self.owner[b as usize] as usize;
-        let saved = is_at(&self.saved.entries, q, b);
-        let frozen = is_at(self.frozen_entries(), q, b);
+        let q = self.owner[block as usize] as usize;
+        let saved = is_at(&self.saved.entries, q, block);
+        let frozen = is_at(self.frozen_entries(), q, block);
         saved | frozen
     }
 
     /// Whether one of these two or the present map has it.
-    pub fn uses(&self, b: u32) -> bool
-        requires some { 0 < b }
-        requires below { b < length self.now.owner }
-        ensures { IsTrue result ↔ IsUsed self.now b }
+    pub fn uses(&self, block: u32) -> bool
+        requires some { 0 < block }
+        requires below { block < length self.now.owner }
+        ensures { IsTrue result ↔ IsUsed self.now block }
     {
-        let q = self.owner[b as usize] as usize;
-        let present = is_at(&self.present, q, b);
-        let kept = self.kept(b);
+        let q = self.owner[block as usize] as usize;
+        let present = is_at(&self.present, q, block);
+        let kept = self.kept(block);
         present | kept
     }
 
@@ -239,8 +240,8 @@ impl Converter {
         requires area { (length free.old ≡ length self.old.owner)
             × (length marks.now ≡ length self.old.owner) }
         requires unused { AreUnused self.old free.old }
-        ensures maps { self.new ≡ settled self.old }
-        ensures given { Given (Leaves self.old marks.now) 0 (length self.old.saved) free.old
+        ensures maps { self.new ≡ frozen_as_saved self.old }
+        ensures given { FreesLeaving (Leaves self.old marks.now) 0 (length self.old.saved) free.old
             free.new }
     {
         let FrozenMap { savepoint: _ } = map;
@@ -257,35 +258,35 @@ impl Converter {
     }
 
     // Gives one of the converter's own pages a block that no map has.
-    pub(crate) fn set_own(&mut self, q: usize, entry: ConverterEntry, savepoint: u64)
-        requires place { q < self.old.conv }
+    pub(crate) fn set_own(&mut self, place: usize, entry: ConverterEntry, savepoint: u64)
+        requires place { place < self.old.conv }
         requires frozen { self.old.frozen_at ≡ Some savepoint }
         requires block { (2 ≤ entry.block) × (entry.block < length self.old.owner) }
         requires stamp { entry.stamp < 2 ^ 62 }
         requires unused { IsUsed self.old entry.block → ⊥ }
-        ensures { self.new ≡ with_own self.old q entry }
+        ensures { self.new ≡ with_own self.old place entry }
     {
         let _savepoint = savepoint;
-        self.present[q] = entry;
-        self.frozen.entries[q] = entry;
-        self.owner[entry.block as usize] = q as u32;
+        self.present[place] = entry;
+        self.frozen.entries[place] = entry;
+        self.owner[entry.block as usize] = place as u32;
     }
 
     // Gives a place of the present and the last savepoint's map a block that no map has.
-    pub(crate) fn place(&mut self, q: usize, entry: ConverterEntry)
-        requires place { q < self.old.conv + length self.old.owner }
+    pub(crate) fn place(&mut self, place: usize, entry: ConverterEntry)
+        requires place { place < self.old.conv + length self.old.owner }
         requires thawed { self.old.frozen_at ≡ None }
         requires block { (2 ≤ entry.block) × (entry.block < length self.old.owner) }
         requires stamp { entry.stamp < 2 ^ 62 }
-        requires fits { self.old.conv ≤ q → IsTrue (converter_entry_fits entry) }
+        requires fits { self.old.conv ≤ place → IsTrue (converter_entry_fits entry) }
         requires unused { IsUsed self.old entry.block → ⊥ }
-        ensures { self.new ≡ with_loaded self.old q entry }
+        ensures { self.new ≡ with_loaded self.old place entry }
     {
-        self.present[q] = entry;
-        self.saved.entries[q] = entry;
-        self.owner[entry.block as usize] = q as u32;
-        if q >= self.conv {
-            self.frozen.behind[(q - self.conv) / PAGES] = true;
+        self.present[place] = entry;
+        self.saved.entries[place] = entry;
+        self.owner[entry.block as usize] = place as u32;
+        if place >= self.conv {
+            self.frozen.behind[(place - self.conv) / PAGES] = true;
         }
     }
 
@@ -304,7 +305,7 @@ impl Converter {
         requires { page < length self.now.owner }
         ensures block { result ≡ block_of self.now.frozen (self.now.conv + page) }
         ensures below { result < length self.now.owner }
-        ensures sound { IsSound self.now }
+        ensures sound { IsSoundMaps self.now }
     {
         // Opens the invariant of the maps.
         let _owner = self.owner.len();
@@ -325,7 +326,7 @@ impl Converter {
         requires { place < self.now.conv + length self.now.owner }
         ensures entry { result ≡ entry_at self.now.saved place }
         ensures below { result.block < length self.now.owner }
-        ensures sound { IsSound self.now }
+        ensures sound { IsSoundMaps self.now }
     {
         // Opens the invariant of the maps.
         let _owner = self.owner.len();
@@ -335,7 +336,7 @@ impl Converter {
     /// How many blocks the area has.
     pub(crate) fn blocks(&self) -> u32
         ensures count { result ≡ length self.now.owner }
-        ensures sound { IsSound self.now }
+        ensures sound { IsSoundMaps self.now }
     {
         self.owner.len() as u32
     }
@@ -343,7 +344,7 @@ impl Converter {
     /// How many leaves a map has.
     pub fn leaves(&self) -> u32
         ensures count { result + 1 ≡ self.now.conv }
-        ensures sound { IsSound self.now }
+        ensures sound { IsSoundMaps self.now }
     {
         (self.conv - 1) as u32
     }
@@ -353,7 +354,7 @@ impl Converter {
         requires frozen { self.now.frozen_at ≡ Some map.now.savepoint }
         requires leaf { leaf + 1 < self.now.conv }
         ensures same { (IsTrue result → ⊥) ↔ IsSameLeaf self.now leaf }
-        ensures sound { IsSound self.now }
+        ensures sound { IsSoundMaps self.now }
     {
         let _savepoint = map.savepoint;
         let i = leaf as usize;
@@ -374,32 +375,32 @@ impl Converter {
         ensures entries { (k : ℕ) → k < 600
             → entry_at result k ≡ entry_at self.now.frozen (self.now.conv + 600 * leaf + k) }
         ensures long { length result ≡ 600 }
-        ensures sound { IsSound self.now }
+        ensures sound { IsSoundMaps self.now }
     {
         let at = self.conv + PAGES * leaf as usize;
         run_of(self.frozen_entries(), at)
     }
 
     // The block that one of the converter's own pages has in the frozen map.
-    pub(crate) fn frozen_own(&self, q: u32) -> u32
-        requires { q < self.now.conv }
-        ensures { result ≡ block_of self.now.frozen q }
+    pub(crate) fn frozen_own(&self, place: u32) -> u32
+        requires { place < self.now.conv }
+        ensures { result ≡ block_of self.now.frozen place }
     {
-        entry_of(self.frozen_entries(), q as usize).block
+        entry_of(self.frozen_entries(), place as usize).block
     }
 
     // The block of one of the converter's own pages, in the frozen map or in that of the last
     // savepoint.
-    pub(crate) fn own_block(&self, q: u32) -> u32
-        requires { q < self.now.conv }
-        ensures block { result ≡ block_of self.now.present q }
-        ensures own { entry_at self.now.present q
-            ≡ entry_at (own_of self.now.frozen_at self.now.saved self.now.frozen) q }
+    pub(crate) fn own_block(&self, place: u32) -> u32
+        requires { place < self.now.conv }
+        ensures block { result ≡ block_of self.now.present place }
+        ensures own { entry_at self.now.present place
+            ≡ entry_at (own_of self.now.frozen_at self.now.saved self.now.frozen) place }
         ensures below { result < length self.now.owner }
-        ensures sound { IsSound self.now }
+        ensures sound { IsSoundMaps self.now }
     {
         // Opens the invariant of the maps.
         let _owner = self.owner.len();
-        entry_of(&self.present, q as usize).block
+        entry_of(&self.present, place as usize).block
     }
 }

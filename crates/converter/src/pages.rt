@@ -6,7 +6,7 @@ ghost use Rattle.mdb_host.specs.Disk.{Disk, Calls};
 ghost use Rattle.free_blocks.specs.Free.{IsFree, free_count};
 ghost use Rattle.volume_disk.specs.Blocks.{IsArea, Writes, block_at};
 ghost use Rattle.converter.specs.Maps.{Maps, entry_at, block_of, AreUnused};
-ghost use Rattle.converter.specs.Tree.{LeafHeld, RootHeld, Took};
+ghost use Rattle.converter.specs.Tree.{HasLeafBytes, HasRootBytes, TakesBlock};
 
 use crate::kept::LEAVES;
 use crate::maps::{Converter, FrozenMap};
@@ -21,17 +21,17 @@ use volume_disk::Volumes;
 
 impl Converter {
     // Gives an own page the least free block.
-    fn take_own(&mut self, free: &mut FreeBlocks, map: &FrozenMap, q: usize) -> u32
+    fn take_own(&mut self, free: &mut FreeBlocks, map: &FrozenMap, place: usize) -> u32
         requires frozen { self.old.frozen_at ≡ Some map.now.savepoint }
-        requires place { q < self.old.conv }
+        requires place { place < self.old.conv }
         requires area { length free.old ≡ length self.old.owner }
         requires some { 0 < free_count free.old }
         requires unused { AreUnused self.old free.old }
         // The result.
-        ensures block { result ≡ block_of self.new.frozen q }
+        ensures block { result ≡ block_of self.new.frozen place }
         ensures below { result < length self.old.owner }
-        ensures took { Took self.old self.new free.old free.new q map.now.savepoint
-            (block_of self.new.frozen q) }
+        ensures took { TakesBlock self.old self.new free.old free.new place map.now.savepoint
+            (block_of self.new.frozen place) }
     {
         // Opens the invariant of the maps.
         let _blocks = self.blocks();
@@ -40,7 +40,7 @@ impl Converter {
             block: b,
             stamp: map.savepoint(),
         };
-        self.set_own(q, entry, map.savepoint());
+        self.set_own(place, entry, map.savepoint());
         b
     }
 
@@ -60,7 +60,7 @@ impl Converter {
     // Spells leaf i of the frozen map.
     fn spell_leaf(&self, map: &FrozenMap, leaf: u32, page: &mut [u8; PAGE_BYTES])
         requires { leaf + 1 < self.now.conv }
-        ensures { LeafHeld self.now.frozen self.now.conv leaf page.new }
+        ensures { HasLeafBytes self.now.frozen self.now.conv leaf page.new }
     {
         let value = ConverterLeaf {
             leaf,
@@ -72,7 +72,7 @@ impl Converter {
 
     // Spells the root of the frozen map.
     fn spell_root(&self, map: &FrozenMap, page: &mut [u8; PAGE_BYTES])
-        ensures { RootHeld self.now.frozen self.now.conv page.new }
+        ensures { HasRootBytes self.now.frozen self.now.conv page.new }
     {
         // Opens the invariant of the maps.
         let _leaves = self.leaves();
@@ -100,14 +100,14 @@ impl Converter {
         requires some { 0 < free_count free.old }
         requires unused { AreUnused self.old free.old }
         requires there { H.tells → IsArea volumes.now (H.disk host.old).seen }
-        ensures took { Took self.old self.new free.old free.new (leaf + 1) map.now.savepoint
+        ensures took { TakesBlock self.old self.new free.old free.new (leaf + 1) map.now.savepoint
             (block_of self.new.frozen (leaf + 1)) }
         ensures calls { H.tells
             → Calls (H.disk host.old) (H.disk host.new)
             (Writes volumes.now (λ b. b ≡ block_of self.new.frozen (leaf + 1))) }
         ensures written { OnOk result
             (H.tells
-            → LeafHeld self.new.frozen self.new.conv leaf
+            → HasLeafBytes self.new.frozen self.new.conv leaf
             (block_at volumes.now (H.disk host.new).seen
             (block_of self.new.frozen (leaf + 1)))) }
         ensures cause { HasCause (H.faults host.old) (H.faults host.new) result }
@@ -135,14 +135,14 @@ impl Converter {
         requires unused { AreUnused self.old free.old }
         requires there { H.tells → IsArea volumes.now (H.disk host.old).seen }
         ensures root { IfOk result (λ b. b ≡ block_of self.new.frozen 0) }
-        ensures took { Took self.old self.new free.old free.new 0 map.now.savepoint
+        ensures took { TakesBlock self.old self.new free.old free.new 0 map.now.savepoint
             (block_of self.new.frozen 0) }
         ensures calls { H.tells
             → Calls (H.disk host.old) (H.disk host.new)
             (Writes volumes.now (λ b. b ≡ block_of self.new.frozen 0)) }
         ensures written { OnOk result
             (H.tells
-            → RootHeld self.new.frozen self.new.conv
+            → HasRootBytes self.new.frozen self.new.conv
             (block_at volumes.now (H.disk host.new).seen (block_of self.new.frozen 0))) }
         ensures cause { HasCause (H.faults host.old) (H.faults host.new) result }
         ensures say_faults { H.say_faults host.new ≡ H.say_faults host.old }

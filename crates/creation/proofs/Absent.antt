@@ -3,10 +3,10 @@
 --     none_size      what is told to be none is none
 use Rattle.std.proofs.Common.{◌≡◌, refl, ℕ, true, false, is_some, List, Option, Some, None}
 use Rattle.mdb_model.specs.Images.{size_of}
-use Rattle.mdb_host.specs.Disk.{pages_of}
+use Rattle.mdb_host.specs.Disk.{page_count}
 
 -- a device that is absent is so in each image of its size
-pub absent_same : (a b : Option (List ℕ)) → pages_of a ≡ None → size_of b ≡ size_of a → b ≡ a
+pub absent_same : (a b : Option (List ℕ)) → page_count a ≡ None → size_of b ≡ size_of a → b ≡ a
 absent_same None None none same = refl
 absent_same None (Some y) none same = absurd cc
 absent_same (Some x) b none same = absurd cc

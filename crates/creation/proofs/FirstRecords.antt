@@ -5,15 +5,15 @@ use Rattle.std.specs.Prelude.{nat_le}
 use Rattle.std.proofs.lemmas.Bool.{le-leb}
 use Rattle.std.proofs.lemmas.List.Folds.{list_all-append}
 use Rattle.mdb_bytes.specs.Fields.{field_fits, fields_fit}
-use Rattle.mdb_bytes.specs.Parts.{Keeps, word_format, table_fields}
+use Rattle.mdb_bytes.specs.Parts.{KeepsLimits, word_format, table_fields}
 use Rattle.mdb_bytes.specs.Firsts.{first_restart, first_root_block}
 use Rattle.mdb_bytes.specs.SlotRecords.{restart_front, restart_middle, restart_fields, restart_numbers_fit, restart_tables_fit, restart_format, snapshot_fields, slot_len}
 use Rattle.mdb_bytes.proofs.TableLaws.{room-section}
-use Rattle.creation.specs.Standing.{AreVolumes}
-use Rattle.creation.proofs.FirstBlocks.{words_low}
+use Rattle.standing.specs.Standing.{AreVolumes}
+use Rattle.standing.proofs.FirstBlocks.{words_low}
 use Rattle.creation.proofs.Sums.{item_less}
 
-pub restart_keeps : (birth : ℕ) (volumes : List ℕ) → 1 ≤ birth → birth < 2 ^ 61 → AreVolumes volumes → Keeps restart_format (first_restart birth volumes)
+pub restart_keeps : (birth : ℕ) (volumes : List ℕ) → 1 ≤ birth → birth < 2 ^ 61 → AreVolumes volumes → KeepsLimits restart_format (first_restart birth volumes)
 restart_keeps birth volumes low high are =
     let v = first_restart birth volumes in
     let one : nat_le 1 birth ≡ true = le-leb 1 birth low in

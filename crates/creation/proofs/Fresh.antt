@@ -8,12 +8,13 @@ use Rattle.std.proofs.lemmas.Bool.{cases_lt}
 use Rattle.mdb_model.specs.declared.fault.Device.{Device}
 use Rattle.mdb_model.specs.declared.fault.Device.TheVariants.{Data, Log, Medium}
 use Rattle.mdb_model.specs.Images.{Image, size_of}
-use Rattle.mdb_host.specs.Disk.{Disk, Goes, Calls, Made, SameSizes}
+use Rattle.mdb_host.specs.Disk.{Disk, Goes, Calls, Creates, SameSizes}
 use Rattle.mdb_host.proofs.Moments.{widen, onward}
-use Rattle.creation.specs.Devices.{device_count, device_at}
-use Rattle.creation.specs.Making.{Each, IsEmpty, IsFresh}
+use Rattle.mdb_host.specs.Places.{device_at}
+use Rattle.creation.specs.Devices.{device_count}
+use Rattle.creation.specs.Making.{Each, IsEmpty, HasZeroVolumes}
 use Rattle.creation.specs.Quiet.{AnyHow}
-use Rattle.creation.specs.Standing.{Site}
+use Rattle.standing.specs.Standing.{Site}
 
 -- the devices by their numbers
 pub volume_is : (i : ℕ) → i < 8 → device_at i ≡ Data (i + 1)
@@ -42,9 +43,9 @@ empty_all disk sizes absent image left = record {
 }
 
 -- a device that was made is there in each image, and the others are as before
-module _ (d0 d1 : Disk) (device : Device) (n : ℕ) (calls : Calls d0 d1 (Made device n)) (made : d1.seen device ≡ Some (replicate n 0))
+module _ (d0 d1 : Disk) (device : Device) (n : ℕ) (calls : Calls d0 d1 (Creates device n)) (made : d1.seen device ≡ Some (replicate n 0))
     (sizes : (image : Image) → d1.may_leave d1.now image → SameSizes d1.seen image) (image : Image) (left : d1.may_leave d1.now image) where
-  abbrev pub before : (a : Image) × d0.may_leave d0.now a × Made device n a image
+  abbrev pub before : (a : Image) × d0.may_leave d0.now a × Creates device n a image
   before = calls.goes.since d1.now image calls.goes.keeps.later (omega arith) left
 
   pub made_there : before.0 device ≡ None → image device ≡ Some (replicate n 0)
@@ -74,8 +75,8 @@ log_data volume e = cc
 data_is : (v w : ℕ) → Data v ≡ Data w → v ≡ w
 data_is v w e = cc
 
-pub fresh_log : (d0 d1 : Disk) (site : Site) → Calls d0 d1 (Made Log (8192 * site.log_pages)) → d1.seen Log ≡ Some (replicate (8192 * site.log_pages) 0)
-    → ((image : Image) → d1.may_leave d1.now image → SameSizes d1.seen image) → Each d0 IsEmpty → Each d1 (IsFresh site 0)
+pub fresh_log : (d0 d1 : Disk) (site : Site) → Calls d0 d1 (Creates Log (8192 * site.log_pages)) → d1.seen Log ≡ Some (replicate (8192 * site.log_pages) 0)
+    → ((image : Image) → d1.may_leave d1.now image → SameSizes d1.seen image) → Each d0 IsEmpty → Each d1 (HasZeroVolumes site 0)
 fresh_log d0 d1 site calls made sizes empty image left =
     let b = before d0 d1 Log (8192 * site.log_pages) calls made sizes image left in
     let none = empty b.0 b.1 in
@@ -86,8 +87,8 @@ fresh_log d0 d1 site calls made sizes empty image left =
       media = λ m low high. others_same d0 d1 Log (8192 * site.log_pages) calls made sizes image left (Medium m) (medium_apart m) ∙ none.media m low high;
     }
 
-pub fresh_more : (d0 d1 : Disk) (site : Site) (n : ℕ) (device : Device) (bytes : ℕ) → device ≡ Data (n + 1) → bytes ≡ 8192 * get_or site.volumes n 0 → n < 8 → Calls d0 d1 (Made device bytes) → d1.seen device ≡ Some (replicate bytes 0)
-    → ((image : Image) → d1.may_leave d1.now image → SameSizes d1.seen image) → Each d0 (IsFresh site n) → Each d1 (IsFresh site (n + 1))
+pub fresh_more : (d0 d1 : Disk) (site : Site) (n : ℕ) (device : Device) (bytes : ℕ) → device ≡ Data (n + 1) → bytes ≡ 8192 * get_or site.volumes n 0 → n < 8 → Calls d0 d1 (Creates device bytes) → d1.seen device ≡ Some (replicate bytes 0)
+    → ((image : Image) → d1.may_leave d1.now image → SameSizes d1.seen image) → Each d0 (HasZeroVolumes site n) → Each d1 (HasZeroVolumes site (n + 1))
 fresh_more d0 d1 site n device bytes at long small calls made sizes fresh image left =
     let b = before d0 d1 device bytes calls made sizes image left in
     let was = fresh b.0 b.1 in

@@ -19,11 +19,11 @@ use Rattle.gate_slots.specs.Steps.{Begun}
 use Rattle.gate_slots.proofs.Forces.{ready_force}
 use Rattle.gate_slots.proofs.Kept.{force_device}
 use Rattle.gate_slots.proofs.Places.{slot_shut}
-use Rattle.volume_disk.specs.Blocks.{place, page_of, block_at, Writes}
+use Rattle.volume_disk.specs.Blocks.{place, device_page, block_at, Writes}
 use Rattle.volume_disk.proofs.Pages.{page_agrees, page_kept, data_is}
 use Rattle.volume_disk.proofs.Places.{place_here, place_on, at_least, place_is}
-use Rattle.creation.specs.Making.{IsFresh, HasFirstPages, IsWritten, IsLogged}
-use Rattle.creation.specs.Standing.{Site, IsSite, AreVolumes, Stands, at_rest, made_at, ring_of, data_slots, log_slots}
+use Rattle.creation.specs.Making.{HasZeroVolumes, HasFirstPages, HasAllButRecords, IsLogged}
+use Rattle.standing.specs.Standing.{Site, IsSite, AreVolumes, Stands, at_rest, creation_at, ring_of, data_slots, log_slots}
 use Rattle.creation.proofs.Fresh.{data_apart, medium_apart, medium_data, log_data}
 use Rattle.creation.proofs.Zeros.{zeros_device, zeros_len, byte_of_page}
 
@@ -67,19 +67,19 @@ blocks_agree volumes are a b same pages block low high =
 kept_block : (volumes : List ℕ) (a b : Image) → Torn (Data 1) 0 16384 a b → (block : ℕ) → 2 ≤ block → block < sum volumes → block_at volumes b block ≡ block_at volumes a block
 kept_block [] a b torn block low there = absurd (omega (arith, there))
 kept_block (n ∷ ns) a b torn block low there = elim (cases_lt block n) [
-  | inl here ↦ subst (λ (p : ℕ × ℕ). page_of b (Data p.0) p.1 ≡ page_of a (Data p.0) p.1) (sym (place_here 1 n ns block here))
+  | inl here ↦ subst (λ (p : ℕ × ℕ). device_page b (Data p.0) p.1 ≡ device_page a (Data p.0) p.1) (sym (place_here 1 n ns block here))
       (page_kept a b (Data 1) block torn.size (λ k from to. torn.outside k (inr (omega (arith, low, from)))))
-  | inr on ↦ subst (λ (p : ℕ × ℕ). page_of b (Data p.0) p.1 ≡ page_of a (Data p.0) p.1) (sym (place_on 1 n ns block on))
+  | inr on ↦ subst (λ (p : ℕ × ℕ). device_page b (Data p.0) p.1 ≡ device_page a (Data p.0) p.1) (sym (place_on 1 n ns block on))
       (page_agrees a b (Data (place 2 ns (block - n)).0) (place 2 ns (block - n)).1 (torn.others (Data (place 2 ns (block - n)).0) (λ e. let v = data_is (place 2 ns (block - n)).0 1 e in absurd (omega (arith, v, at_least 2 ns (block - n))))))
 ]
 
 -- what the first pages make of new devices
-module _ (site : Site) (are : AreVolumes site.volumes) (a b : Image) (fresh : IsFresh site (length site.volumes) a) (writes : Writes site.volumes (λ block. 2 ≤ block) a b) (pages : HasFirstPages site.volumes b) where
+module _ (site : Site) (are : AreVolumes site.volumes) (a b : Image) (fresh : HasZeroVolumes site (length site.volumes) a) (writes : Writes site.volumes (λ block. 2 ≤ block) a b) (pages : HasFirstPages site.volumes b) where
   -- a block of the slots
-  slot_page : (p : ℕ) → p < 2 → page_of b (Data 1) p ≡ page_of a (Data 1) p
+  slot_page : (p : ℕ) → p < 2 → device_page b (Data 1) p ≡ device_page a (Data 1) p
   slot_page p small =
       let first : 64 ≤ get_or site.volumes 0 0 = are.each 0 (omega (arith, are.some)) in
-      subst (λ (q : ℕ × ℕ). page_of b (Data q.0) q.1 ≡ page_of a (Data q.0) q.1) (at_front site.volumes p (omega (arith, small, first)))
+      subst (λ (q : ℕ × ℕ). device_page b (Data q.0) q.1 ≡ device_page a (Data q.0) q.1) (at_front site.volumes p (omega (arith, small, first)))
       (writes.outside p (omega (arith, small, are.least)) (λ low. absurd (omega (arith, low, small))))
     where
       at_front : (volumes : List ℕ) (p : ℕ) → p < get_or volumes 0 0 → place 1 volumes p ≡ (1, p)
@@ -97,7 +97,7 @@ module _ (site : Site) (are : AreVolumes site.volumes) (a b : Image) (fresh : Is
   log_same : b Log ≡ a Log
   log_same = writes.others Log (λ i inside e. log_data (i + 1) e)
 
-  pub written_of : IsWritten site b
+  pub written_of : HasAllButRecords site b
   written_of = record {
     sizes = record {
       volumes = λ i inside. writes.same_sizes (Data (i + 1)) ∙ sized (a (Data (i + 1))) (get_or site.volumes i 0) (fresh.volumes i inside);
@@ -114,7 +114,7 @@ module _ (site : Site) (are : AreVolumes site.volumes) (a b : Image) (fresh : Is
 
 -- what the log info makes of them
 pub logged_of : (site : Site) (seen a b : Image) (slots : Slots) (body : SlotBody) → slots.place ≡ log_slots → body ≡ LogBody (first_log_info site.birth site.log_pages) → AreVolumes site.volumes
-    → IsWritten site seen → IsWritten site a → Begun seen slots body a b → IsLogged site b
+    → HasAllButRecords site seen → HasAllButRecords site a → Begun seen slots body a b → IsLogged site b
 logged_of site seen a b slots body at is are seen_was was begun =
     let torn : Torn Log 0 16384 a b = subst (λ (p : SlotPlace). Torn p.device (8192 * p.page) 16384 a b) at begun.torn in
     let ready : IsReady slots body b = begun.ready (subst (λ (p : SlotPlace). IsBlank seen p a) (sym at) (blank_log seen a seen_was.log was.log)) in
@@ -132,7 +132,7 @@ logged_of site seen a b slots body at is are seen_was was begun =
 
 -- what the restart record makes of them
 pub stands_of : (site : Site) (seen a b : Image) (slots : Slots) (body : SlotBody) → slots.place ≡ data_slots → body ≡ Restart (first_restart site.birth site.volumes) → IsSite site
-    → IsLogged site seen → IsLogged site a → Begun seen slots body a b → Stands b (at_rest (made_at site) [])
+    → IsLogged site seen → IsLogged site a → Begun seen slots body a b → Stands b (at_rest (creation_at site) [])
 stands_of site seen a b slots body at is limits seen_was was begun =
     let torn : Torn (Data 1) 0 16384 a b = subst (λ (p : SlotPlace). Torn p.device (8192 * p.page) 16384 a b) at begun.torn in
     let ready : IsReady slots body b = begun.ready (subst (λ (p : SlotPlace). IsBlank seen p a) (sym at) (blank_data seen a seen_was.slots was.slots)) in

@@ -5,7 +5,8 @@ use Rattle.std.proofs.Common.{◌≡◌, ◌⊎◌, inl, inr, sym, subst, ◌∙
 use Rattle.std.proofs.lemmas.Bool.{cases_lt}
 use Rattle.mdb_model.specs.declared.fault.Device.{Device}
 use Rattle.mdb_host.specs.Disk.{Disk, Goes, Agree, Synced}
-use Rattle.creation.specs.Devices.{device_at, SyncedUpTo}
+use Rattle.mdb_host.specs.Places.{device_at}
+use Rattle.creation.specs.Devices.{SyncedUpTo}
 
 -- what is synced stays so over calls that only read
 pub synced_stays : (old new : Disk) (device : Device) → Goes old new Agree → Agree old.seen new.seen → Synced old device → Synced new device

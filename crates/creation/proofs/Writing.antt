@@ -8,7 +8,7 @@ use Rattle.mdb_model.specs.Images.{Image}
 use Rattle.mdb_host.specs.Disk.{Disk, Goes, Agree}
 use Rattle.mdb_host.proofs.Moments.{onward, widen, calmly, same_image}
 use Rattle.mdb_bytes.specs.Firsts.{first_block}
-use Rattle.volume_disk.specs.Blocks.{block_at, Writes, IsSettled}
+use Rattle.volume_disk.specs.Blocks.{block_at, Writes, IsDurable}
 use Rattle.volume_disk.proofs.Writes.{writes_on, writes_more, writes_agree}
 use Rattle.creation.specs.Making.{Each, HasFirstPages}
 
@@ -38,7 +38,7 @@ synced_goes d0 d1 d2 volumes one two =
     calmly d0 d1 d2 (Writes volumes (λ b. 2 ≤ b)) (λ a b c step same. writes_on volumes (λ k. 2 ≤ k) a b c step (writes_agree volumes (λ k. 2 ≤ k) b c same)) one two
 
 -- each image keeps them
-pub pages_kept : (volumes : List ℕ) (d1 d2 : Disk) → 512 ≤ sum volumes → Agree d1.seen d2.seen → HasFirstPages volumes d1.seen → IsSettled volumes d2 → Each d2 (HasFirstPages volumes)
+pub pages_kept : (volumes : List ℕ) (d1 d2 : Disk) → 512 ≤ sum volumes → Agree d1.seen d2.seen → HasFirstPages volumes d1.seen → IsDurable volumes d2 → Each d2 (HasFirstPages volumes)
 pages_kept volumes d1 d2 least same pages settled image left block low high =
     settled image left block (omega (arith, high, least))
     ∙ ap (λ (i : Image). block_at volumes i block) (sym (same_image d1.seen d2.seen same)) ∙ pages block low high

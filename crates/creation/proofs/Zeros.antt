@@ -5,7 +5,7 @@ use Rattle.std.proofs.Common.{◌≡◌, refl, ap, ◌∙◌, ℕ, zero, suc, �
 use Rattle.std.proofs.lemmas.List.{get_or-take, get_or-drop}
 use Rattle.mdb_model.specs.declared.fault.Device.{Device}
 use Rattle.mdb_model.specs.Images.{Image, bytes_of, byte_at}
-use Rattle.volume_disk.specs.Blocks.{page_of}
+use Rattle.volume_disk.specs.Blocks.{device_page}
 
 -- a byte of zeros
 pub zeros_at : (n k : ℕ) → get_or (replicate n zero) k zero ≡ zero
@@ -24,6 +24,6 @@ zeros_len (suc n) = omega (arith, zeros_len n, longer n)
     longer n = refl
 
 -- a byte of a page
-pub byte_of_page : (image : Image) (d : Device) (p k : ℕ) → k < 8192 → get_or (page_of image d p) k 0 ≡ byte_at (image d) (8192 * p + k)
-unfolding page_of
+pub byte_of_page : (image : Image) (d : Device) (p k : ℕ) → k < 8192 → get_or (device_page image d p) k 0 ≡ byte_at (image d) (8192 * p + k)
+unfolding device_page
 byte_of_page image d p k small = get_or-take 8192 (drop (8192 * p) (bytes_of (image d))) k 0 small ∙ get_or-drop (8192 * p) (bytes_of (image d)) k 0

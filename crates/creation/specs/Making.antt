@@ -1,6 +1,6 @@
 -- How far a database is made.
---     IsFresh      the log volume and the first data volumes are there, with zeros
---     IsWritten      and the blocks of the first savepoint are written
+--     HasZeroVolumes      the log volume and the first data volumes are there, with zeros
+--     HasAllButRecords      and the blocks of the first savepoint are written
 --     IsLogged      and the log info
 --     Each      each image that a crash may leave now has it
 use Rattle.std.specs.Prelude.{◌≡◌, ℕ, ◌+◌, ◌*◌, ◌<◌, ◌≤◌, List, length, get_or, sum, replicate, None, Some}
@@ -11,7 +11,7 @@ use Rattle.mdb_bytes.specs.Firsts.{first_log_info, first_block, first_root_block
 use Rattle.gate_slots.specs.declared.body.SlotBody.TheVariants.{Log as LogBody}
 use Rattle.gate_slots.specs.Slots.{in_force}
 use Rattle.volume_disk.specs.Blocks.{block_at}
-use Rattle.creation.specs.Standing.{Site, log_slots}
+use Rattle.standing.specs.Standing.{Site, log_slots}
 
 -- each image that a crash may leave now
 abbrev pub Each : Disk → (Image → Type 0) → Type 0
@@ -19,7 +19,7 @@ Each disk holds = (image : Image) → disk.may_leave disk.now image → holds im
 
 -- The log volume is there, where it is made, and the first n data volumes, with zero bytes. No
 -- other device is.
-pub record IsFresh (site : Site) (n : ℕ) (image : Image) : Type 0 where
+pub record HasZeroVolumes (site : Site) (n : ℕ) (image : Image) : Type 0 where
   pub log : image Log ≡ Some (replicate (8192 * site.log_pages) 0)
   pub volumes : (i : ℕ) → i < n → image (Data (i + 1))
       ≡ Some (replicate (8192 * get_or site.volumes i 0) 0)
@@ -46,7 +46,7 @@ HasFirstPages volumes image =
     → block_at volumes image block ≡ first_block (sum volumes) block
 
 -- all but the records: the slots of both have zero bytes, and so has the log
-pub record IsWritten (site : Site) (image : Image) : Type 0 where
+pub record HasAllButRecords (site : Site) (image : Image) : Type 0 where
   pub sizes : HasSizes site image
   pub log : (k : ℕ) → byte_at (image Log) k ≡ 0
   pub slots : (k : ℕ) → k < 16384 → byte_at (image (Data 1)) k ≡ 0

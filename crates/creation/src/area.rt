@@ -4,9 +4,10 @@ ghost use Rattle.mdb_model.specs.Causes.{HasCause};
 ghost use Rattle.mdb_model.specs.declared.fault.Device.TheVariants.{Data, Log};
 ghost use Rattle.mdb_model.specs.Images.{Image};
 ghost use Rattle.mdb_host.specs.Disk.{Disk, Goes, IsThere};
-ghost use Rattle.creation.specs.Devices.{device_count, device_at};
-ghost use Rattle.creation.specs.Making.{Each, IsEmpty, IsFresh};
-ghost use Rattle.creation.specs.Standing.{AreVolumes, Site};
+ghost use Rattle.mdb_host.specs.Places.{device_at};
+ghost use Rattle.creation.specs.Devices.{device_count};
+ghost use Rattle.creation.specs.Making.{Each, IsEmpty, HasZeroVolumes};
+ghost use Rattle.standing.specs.Standing.{AreVolumes, Site};
 ghost use Rattle.creation.specs.Quiet.{AnyHow};
 
 use crate::devices::{DEVICES, device};
@@ -33,7 +34,7 @@ pub(crate) fn any_there<H: Host>(host: &H) -> bool
 fn make_log<H: Host>(host: &mut H, pages: u32) -> Result<(), Failed>
     requires absent { H.tells → Each (H.disk host.old) IsEmpty }
     ensures made { OnOk result (H.tells → (birth : ℕ) (volumes : List ℕ)
-        → Each (H.disk host.new) (IsFresh
+        → Each (H.disk host.new) (HasZeroVolumes
         (record { birth = birth; volumes = volumes; log_pages = pages }) 0)) }
     ensures goes { H.tells → Goes (H.disk host.old) (H.disk host.new) AnyHow }
     ensures cause { HasCause (H.faults host.old) (H.faults host.new) result }
@@ -47,8 +48,8 @@ fn make_volume<H: Host>(host: &mut H, volume: usize, blocks: u32) -> Result<(), 
     requires few { volume < 8 }
     requires absent { H.tells → Each (H.disk host.old) (λ image. image (Data (volume + 1)) ≡ None) }
     ensures made { OnOk result (H.tells → (site : Site) → get_or site.volumes volume 0 ≡ blocks
-        → Each (H.disk host.old) (IsFresh site volume)
-        → Each (H.disk host.new) (IsFresh site (volume + 1))) }
+        → Each (H.disk host.old) (HasZeroVolumes site volume)
+        → Each (H.disk host.new) (HasZeroVolumes site (volume + 1))) }
     ensures goes { H.tells → Goes (H.disk host.old) (H.disk host.new) AnyHow }
     ensures cause { HasCause (H.faults host.old) (H.faults host.new) result }
     ensures say_faults { H.say_faults host.new ≡ H.say_faults host.old }
@@ -65,7 +66,7 @@ pub(crate) fn make_devices<H: Host>(
 ) -> Result<(), Failed>
     requires absent { H.tells → Each (H.disk host.old) IsEmpty }
     ensures made { OnOk result (H.tells → (birth : ℕ)
-        → Each (H.disk host.new) (IsFresh
+        → Each (H.disk host.new) (HasZeroVolumes
         (record { birth = birth; volumes = volumes.now.items; log_pages = log_pages })
         (length volumes.now.items))) }
     ensures goes { H.tells → Goes (H.disk host.old) (H.disk host.new) AnyHow }

@@ -2,7 +2,8 @@
 ghost use Rattle.std.specs.Prelude.{◌≡◌, ℕ, ◌≤◌, ◌<◌, None, OnOk, IfErr};
 ghost use Rattle.mdb_model.specs.Causes.{HasCause};
 ghost use Rattle.mdb_host.specs.Disk.{Disk, Goes, Agree, Synced};
-ghost use Rattle.creation.specs.Devices.{device_count, device_at, SyncedUpTo};
+ghost use Rattle.mdb_host.specs.Places.{device_at};
+ghost use Rattle.creation.specs.Devices.{device_count, SyncedUpTo};
 
 use mdb_host::{Device, Failed, Host};
 

@@ -3,13 +3,11 @@
 
 mod area;
 mod devices;
-mod laws;
 mod limits;
 mod making;
 mod pages;
 mod slots;
 
 pub use devices::sync_devices;
-pub use laws::{narrow_standing_is_whole, showing_is_enough};
 pub use limits::can_create;
 pub use making::{CreateFault, create};

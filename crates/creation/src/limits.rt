@@ -1,6 +1,6 @@
 //! What a database may be made with.
 ghost use Rattle.std.specs.Prelude.{◌≡◌, ◌↔◌, ◌≤◌, length, IsTrue};
-ghost use Rattle.creation.specs.Standing.{AreVolumes, IsSite};
+ghost use Rattle.standing.specs.Standing.{AreVolumes, IsSite};
 
 use arrayvec::ArrayVec;
 use mdb_model::limits::{MOST_BLOCKS, RECORD_NUMBER_END};

@@ -3,11 +3,12 @@ ghost use Rattle.std.specs.Prelude.{◌≡◌, ◌≢◌, ℕ, ◌≤◌, ◌<�
 ghost use Rattle.mdb_model.specs.Causes.{HasCause, Rose};
 ghost use Rattle.mdb_model.specs.Images.{Image};
 ghost use Rattle.mdb_host.specs.Disk.{Disk, Goes, Keeps, IsThere};
-ghost use Rattle.creation.specs.Devices.{device_count, device_at};
+ghost use Rattle.mdb_host.specs.Places.{device_at};
+ghost use Rattle.creation.specs.Devices.{device_count};
 ghost use Rattle.creation.specs.Making.{Each, IsEmpty};
 ghost use Rattle.creation.specs.Quiet.{AnyHow};
-ghost use Rattle.creation.specs.Standing.{IsSite, Stands, at_rest, made_at};
-ghost use Rattle.creation.specs.WholeStanding.{StandsWhole};
+ghost use Rattle.standing.specs.Standing.{IsSite, Stands, at_rest, creation_at};
+ghost use Rattle.standing.specs.WholeStanding.{StandsWhole};
 
 use crate::area::{any_there, make_devices};
 use crate::pages::write_pages;
@@ -43,7 +44,7 @@ fn make_database<H: Host>(
     }) }
     requires empty { H.tells → Each (H.disk host.old) IsEmpty }
     ensures made { OnOk result (H.tells → Each (H.disk host.new)
-        (λ image. Stands image (at_rest (made_at
+        (λ image. Stands image (at_rest (creation_at
         (record { birth = birth; volumes = volumes.now.items; log_pages = log_pages })) []))) }
     ensures goes { H.tells → Goes (H.disk host.old) (H.disk host.new) AnyHow }
     ensures cause { HasCause (H.faults host.old) (H.faults host.new) result }
@@ -76,11 +77,11 @@ pub fn create<H: Host>(
     }) }
     ensures done { OnOk result (H.tells → (image : Image)
         → (H.disk host.new).may_leave (H.disk host.new).now image
-        → Stands image (at_rest (made_at
+        → Stands image (at_rest (creation_at
         (record { birth = birth; volumes = volumes.now.items; log_pages = log_pages })) [])) }
     ensures whole { OnOk result (H.tells → (image : Image)
         → (H.disk host.new).may_leave (H.disk host.new).now image
-        → StandsWhole image (at_rest (made_at
+        → StandsWhole image (at_rest (creation_at
         (record { birth = birth; volumes = volumes.now.items; log_pages = log_pages })) [])) }
     ensures there { result ≡ Err CreateFault.Exists → H.tells
         → (number : ℕ) × (number < device_count)

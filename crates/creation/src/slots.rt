@@ -4,9 +4,9 @@ ghost use Rattle.mdb_model.specs.Causes.{HasCause};
 ghost use Rattle.mdb_model.specs.declared.fault.Device.TheVariants.{Data, Log};
 ghost use Rattle.mdb_host.specs.Disk.{Disk, Goes, IsWithin};
 ghost use Rattle.mdb_bytes.specs.Firsts.{first_restart, first_log_info};
-ghost use Rattle.creation.specs.Making.{Each, IsWritten, IsLogged};
+ghost use Rattle.creation.specs.Making.{Each, HasAllButRecords, IsLogged};
 ghost use Rattle.creation.specs.Quiet.{AnyHow};
-ghost use Rattle.creation.specs.Standing.{AreVolumes, IsSite, Stands, at_rest, made_at};
+ghost use Rattle.standing.specs.Standing.{AreVolumes, IsSite, Stands, at_rest, creation_at};
 
 use crate::pages::root_block;
 use arrayvec::ArrayVec;
@@ -81,7 +81,7 @@ pub(crate) fn open_log_info<H: Host>(host: &mut H, birth: u64, log_pages: u32) -
     requires birth { birth < 2 ^ 61 }
     requires within { H.tells → IsWithin (H.disk host.old).seen Log 0 16384 }
     ensures logged { OnOk result (H.tells → (volumes : List ℕ) → AreVolumes volumes
-        → Each (H.disk host.old) (IsWritten
+        → Each (H.disk host.old) (HasAllButRecords
         (record { birth = birth; volumes = volumes; log_pages = log_pages }))
         → Each (H.disk host.new) (IsLogged
         (record { birth = birth; volumes = volumes; log_pages = log_pages }))) }
@@ -109,7 +109,7 @@ pub(crate) fn open_restart_record<H: Host>(
         → Each (H.disk host.old) (IsLogged
         (record { birth = birth; volumes = volumes.now.items; log_pages = log_pages }))
         → Each (H.disk host.new) (λ image. Stands image
-        (at_rest (made_at (record {
+        (at_rest (creation_at (record {
           birth = birth;
           volumes = volumes.now.items;
           log_pages =

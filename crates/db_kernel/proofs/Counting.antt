@@ -1,8 +1,9 @@
 -- How many rows a session sees.
 --     length_values      a map has as many values as keys
---     few_rows      a scan has no more rows than there are rows and changes of the session
-use Rattle.std.proofs.Common.{◌≡◌, sym, ap, ◌∙◌, ℕ, ◌+◌, ◌-◌, ◌^◌, ◌<◌, ◌≤◌, ◌==◌, Bool, true, false, cond, List, [], ◌∷◌, Result, Ok, Err, length, filter, arith}
-use Rattle.std.specs.FinMap.{FinMap, len, len-entries, entries, values, insert, remove, len-insert, len-remove, contains_key}
+--     few_seen      a scan has no more rows than there are rows and changes of the session
+--     same_changes      the session's changes, where all changes stay
+use Rattle.std.proofs.Common.{◌≡◌, sym, ap, ◌∙◌, ℕ, ◌+◌, ◌-◌, ◌^◌, ◌<◌, ◌≤◌, ◌==◌, Bool, true, false, cond, List, [], ◌∷◌, slice_index_or, length, filter, arith}
+use Rattle.std.specs.FinMap.{FinMap, empty, len, len-entries, entries, values, insert, remove, len-insert, len-remove, contains_key}
 use Rattle.std.proofs.lemmas.List.{length-map}
 use Rattle.mdb_model.specs.declared.change.Change.{Change}
 use Rattle.mdb_model.specs.declared.change.Change.TheVariants.{Put, Del}
@@ -11,14 +12,9 @@ use Rattle.mdb_model.specs.declared.name.Table.{Table}
 use Rattle.mdb_model.specs.Answers.{Row}
 use Rattle.mdb_model.specs.Steps.{rows_of}
 use Rattle.mdb_model.specs.Tables.{Tables, Place, place_cmp, with_change, with_changes}
-use Rattle.mdb_model.specs.Worlds.{ShareTable}
 use Rattle.sorted_places.proofs.Places.{place_total}
-use Rattle.transactions.specs.declared.fault.TxFault.{TxFault}
-use Rattle.transactions.specs.declared.fault.TxFault.TheVariants as tx
-use Rattle.transactions.specs.Calls.{TakesLock}
 use Rattle.transactions.specs.Ongoing.{Ongoing, changes_of}
-use Rattle.db_kernel.specs.Sessions.{seen_rows}
-use Rattle.db_kernel.proofs.Moving.{NoPage}
+use Rattle.session_rows.specs.Scan.{seen_rows}
 
 -- a map has as many values as keys
 pub length_values : (net : FinMap place_cmp Change) → length (values net) ≡ len net
@@ -55,24 +51,10 @@ some_rows rows table =
         by_test true less = omega (arith, less)
         by_test false less = omega (arith, less)
 
--- the session's changes stay as it locks a table
-pub changes_kept : (old new : Ongoing) (session : Session) (table : Table) (result : Result (Unit {0}) TxFault) → TakesLock old new session.0 (ShareTable table.0) result → NoPage result
-    → changes_of new session.0 ≡ changes_of old session.0
-changes_kept old new session table (Ok done) takes none = ap (λ (list : List (FinMap place_cmp Change)). changes_of (record old { changes = list }) session.0) takes.1.changes
-changes_kept old new session table (Err (tx.Locked holder)) takes none = ap (λ (x : Ongoing). changes_of x session.0) takes.1
-changes_kept old new session table (Err tx.Memory) takes none = ap (λ (x : Ongoing). changes_of x session.0) takes.1
-changes_kept old new session table (Err (tx.TooLarge bytes)) takes none = absurd takes
-changes_kept old new session table (Err tx.Full) takes none = absurd takes
-changes_kept old new session table (Err (tx.Page fault)) takes none = absurd none
+pub same_changes : (old new : Ongoing) (session : ℕ) → new.changes ≡ old.changes → changes_of new session ≡ changes_of old session
+same_changes old new session same = ap (λ (list : List (FinMap place_cmp Change)). slice_index_or list session empty) same
 
-pub few_rows : (rows : Tables) (old new : Ongoing) (session : Session) (table : Table) (result : Result (Unit {0}) TxFault) → TakesLock old new session.0 (ShareTable table.0) result → NoPage result
-    → (count : ℕ) → count ≡ len rows → count < 2 ^ 63 → (changes : ℕ) → changes ≡ length (values (changes_of old session.0)) → changes < 2 ^ 63
-    → length (rows_of (seen_rows rows new session.0) table.0) < 2 ^ 64
-few_rows rows old new session table result takes none count counted few changes are small =
-    let same : length (values (changes_of new session.0)) ≡ length (values (changes_of old session.0)) = ap (λ (net : FinMap place_cmp Change). length (values net)) (changes_kept old new session table result takes none) in
-    omega (arith, some_rows (seen_rows rows new session.0) table.0, all_changes (values (changes_of new session.0)) rows, same, counted, few, are, small)
-
--- the same of a session as it is
+-- a scan has few rows enough to be counted
 pub few_seen : (rows : Tables) (ongoing : Ongoing) (session : Session) (table : Table) → (count : ℕ) → count ≡ len rows → count < 2 ^ 63 → (changes : ℕ) → changes ≡ length (values (changes_of ongoing session.0)) → changes < 2 ^ 63
     → length (rows_of (seen_rows rows ongoing session.0) table.0) < 2 ^ 64
 few_seen rows ongoing session table count counted few changes are small =

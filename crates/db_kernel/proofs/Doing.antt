@@ -7,14 +7,14 @@ use Rattle.mdb_model.specs.Pages.{PageReading}
 use Rattle.mdb_model.specs.Worlds.{World, off}
 use Rattle.mdb_model.specs.Answers.{Answer}
 use Rattle.mdb_model.specs.Runs.{Line, Entry}
-use Rattle.db_kernel.specs.Stretch.{Stand, MayBe, Does, Completes}
+use Rattle.db_kernel.specs.Stretch.{LeavesOnly, MayBe, Does, Completes}
 
 module _ (reading : PageReading) (stands : Image → World → Type 0) where
   -- the devices went on by a step
   pub does_step : (d0 d1 : Disk) (step : Image → Image → Type 0) (ws : List World) (line : Line) (answer : Answer) (after : List World)
       → Goes d0 d1 step → Entry reading ws line answer after
       → ((a b : Image) → d0.may_leave d0.now a → step a b → (v : World) × stands b v × MayBe reading stands ws line v)
-      → Stand reading stands d1 after
+      → LeavesOnly reading stands d1 after
       → Does reading stands d0 d1 ws line answer after
   does_step d0 d1 step ws line answer after goes entry stop stand = record {
     keeps = goes.keeps;
@@ -26,7 +26,7 @@ module _ (reading : PageReading) (stands : Image → World → Type 0) where
 
   -- no device was changed
   pub does_calm : (d0 d1 : Disk) (ws : List World) (line : Line) (answer : Answer) (after : List World)
-      → Goes d0 d1 Agree → Entry reading ws line answer after → Stand reading stands d0 ws → Stand reading stands d1 after
+      → Goes d0 d1 Agree → Entry reading ws line answer after → LeavesOnly reading stands d0 ws → LeavesOnly reading stands d1 after
       → Does reading stands d0 d1 ws line answer after
   does_calm d0 d1 ws line answer after goes entry before stand =
       does_step d0 d1 Agree ws line answer after goes entry (λ a b left same.
@@ -35,18 +35,18 @@ module _ (reading : PageReading) (stands : Image → World → Type 0) where
 
   -- no device was called
   pub does_still : (disk : Disk) (ws : List World) (line : Line) (answer : Answer) (after : List World)
-      → Entry reading ws line answer after → Stand reading stands disk ws → Stand reading stands disk after
+      → Entry reading ws line answer after → LeavesOnly reading stands disk ws → LeavesOnly reading stands disk after
       → Does reading stands disk disk ws line answer after
   does_still disk ws line answer after entry before stand = does_calm disk disk ws line answer after (stays disk Agree (λ image d. refl)) entry before stand
 
   -- and nothing happened
   pub does_nothing : (disk : Disk) (ws : List World) (line : Line) (answer : Answer) (fits : List World → Type 0)
-      → Entry reading ws line answer ws → Stand reading stands disk ws → fits ws → Completes reading stands disk disk ws line answer fits
+      → Entry reading ws line answer ws → LeavesOnly reading stands disk ws → fits ws → Completes reading stands disk disk ws line answer fits
   does_nothing disk ws line answer fits entry stand fit = record { after = ws; does = does_still disk ws line answer ws entry stand stand; fit = fit }
 
   -- a step that changes nothing of what a world is at rest
   pub does_within : (disk : Disk) (w w' : World) (line : Line) (answer : Answer) (fits : List World → Type 0)
-      → Entry reading (w ∷ []) line answer (w' ∷ []) → Stand reading stands disk (w ∷ []) → off w' ≡ off w → fits (w' ∷ [])
+      → Entry reading (w ∷ []) line answer (w' ∷ []) → LeavesOnly reading stands disk (w ∷ []) → off w' ≡ off w → fits (w' ∷ [])
       → Completes reading stands disk disk (w ∷ []) line answer fits
   does_within disk w w' line answer fits entry stand same fit = record {
     after = w' ∷ [];

@@ -11,8 +11,8 @@ use Rattle.mdb_host.specs.Disk.{AgreeBut}
 use Rattle.mdb_bytes.specs.LogReading.{IsLog, log_bytes}
 use Rattle.mdb_bytes.specs.Rings.{ring_byte}
 use Rattle.redo_ring.specs.Ring.{IsDue, Appends, Appended}
-use Rattle.creation.specs.Standing.{Made, Stands, at_rest, made_at}
-use Rattle.creation.proofs.RecordLaws.{records_appended}
+use Rattle.standing.specs.Standing.{Creation, Stands, at_rest, creation_at}
+use Rattle.standing.proofs.RecordLaws.{records_appended}
 
 bytes_cons : (x : Commit) (commits : List Commit) → log_bytes (x ∷ commits) ≡ group_bytes x.changes + log_bytes commits
 bytes_cons x commits = sum_by-cons (λ commit. group_bytes commit.changes) x commits
@@ -22,17 +22,17 @@ bytes_push [] c = omega (arith, bytes_cons c [])
 bytes_push (x ∷ commits) c = omega (arith, bytes_push commits c, bytes_cons x commits, bytes_cons x (commits ++ c ∷ []))
 
 -- one more commit
-module _ (made : Made) (end number : ℕ) (commits : List Commit) (changes : List Change) (at_end : end ≡ log_bytes commits) (count : number ≡ length commits) (room : end + group_bytes changes + 1 ≤ made.ring) where
+module _ (made : Creation) (end number : ℕ) (commits : List Commit) (changes : List Change) (at_end : end ≡ log_bytes commits) (count : number ≡ length commits) (room : end + group_bytes changes + 1 ≤ made.ring) where
   abbrev more : List Commit
   more = commits ++ record { changes = changes } ∷ []
 
   module _ (a : Image) (was : Stands a (at_rest made commits)) where
-    same_made : made_at was.site ≡ made
+    same_made : creation_at was.site ≡ made
     same_made = ap (λ (w : World). record { name = w.name; blocks = w.blocks; ring = w.ring }) (sym was.is)
 
     is_due : IsDue made.ring made.name end number (group_bytes changes) (ring_byte made.ring a) 0 0 commits
     is_due = record {
-      log = subst (λ (m : Made). IsLog (ring_byte m.ring a) m.name 0 0 commits) same_made was.log;
+      log = subst (λ (m : Creation). IsLog (ring_byte m.ring a) m.name 0 0 commits) same_made was.log;
       ends = omega (arith, at_end);
       count = omega (arith, count);
       room = omega (arith, room);
@@ -44,8 +44,8 @@ module _ (made : Made) (end number : ℕ) (commits : List Commit) (changes : Lis
         site = was.site;
         is = λ i. at_rest (sym same_made i) now;
         records = records_appended was.site a b was.records others size front;
-        log = subst (λ (m : Made). IsLog (ring_byte m.ring b) m.name 0 0 now) (sym same_made) log;
-        room = subst (λ (m : Made). log_bytes now < m.ring) (sym same_made) small;
+        log = subst (λ (m : Creation). IsLog (ring_byte m.ring b) m.name 0 0 now) (sym same_made) log;
+        room = subst (λ (m : Creation). log_bytes now < m.ring) (sym same_made) small;
       }
 
       stands_less : IsLog (ring_byte made.ring b) made.name 0 0 commits → Stands b (at_rest made commits)

@@ -31,11 +31,13 @@ use Rattle.db_kernel.specs.declared.database.Access.{Access}
 use Rattle.db_kernel.specs.declared.database.Access.TheVariants.{Admin, Online}
 use Rattle.db_kernel.specs.declared.database.Database.{Database}
 use Rattle.db_kernel.specs.Access.{open_state, state_of}
-use Rattle.db_kernel.specs.Kept.{Fits, FitsOpen, IsIn, IsAt, IsAtRest, HoldsAll, AreOff, made_of}
+use Rattle.db_kernel.specs.Kept.{FitsWorlds, FitsOpen, IsIn, IsAtWork, IsAtRest, HasAllCommits, AreOff, creation_of}
 use Rattle.db_kernel.specs.Committing.{CommitDoes}
-use Rattle.db_kernel.specs.Sessions.{IsOpen, IsIdle, HasKeys}
-use Rattle.creation.specs.Standing.{Made, at_rest}
-use Rattle.db_kernel.specs.Working.{Moves, no_pages, working, in_admin}
+use Rattle.session_rows.specs.Serving.{HasKeys}
+use Rattle.db_kernel.specs.Sessions.{IsOpen, IsIdle}
+use Rattle.standing.specs.Standing.{Creation, at_rest}
+use Rattle.session_rows.specs.Serving.{no_pages}
+use Rattle.db_kernel.specs.Working.{Moves, working, in_admin}
 use Rattle.db_kernel.proofs.Lines.{entry_state, entry_told, admin_step, kill_admin, offline_open, offline_admin, online_step}
 use Rattle.db_kernel.proofs.Moving.{moves_none, moves_offline, kill_off, kill_moves, kept_one}
 
@@ -47,25 +49,25 @@ one_state : (w : World) (ws : List World) (state : State) → ws ≡ w ∷ [] �
 one_state w ws state is at = subst (λ (vs : List World). All (λ v. v.state ≡ state) vs) (sym is) (All-cons (λ v. v.state ≡ state) w [] at (All-nil (λ v. v.state ≡ state)))
 
 in_state : (access : Access) (database : Database) (ws : List World) → IsIn access database ws → All (λ w. w.state ≡ open_state access) ws
-in_state Admin database ws o = one_state (in_admin (made_of database) o.commits) ws AdminState o.is refl
-in_state Online database ws o = one_state (working (made_of database) o.commits o.sessions) ws OnlineState o.is refl
+in_state Admin database ws o = one_state (in_admin (creation_of database) o.commits) ws AdminState o.is refl
+in_state Online database ws o = one_state (working (creation_of database) o.commits o.sessions) ws OnlineState o.is refl
 
-all_in : (database : Option Database) (ws : List World) → Fits database ws → All (λ w. w.state ≡ state_of database) ws
+all_in : (database : Option Database) (ws : List World) → FitsWorlds database ws → All (λ w. w.state ≡ state_of database) ws
 all_in None ws rest = all_off ws rest
 all_in (Some database) ws fit = in_state database.access database ws fit.at
 
 -- a line that the state does not admit
-pub kernel_refuses : (database : Option Database) (ws : List World) (line : Command) (state : State) → state_of database ≡ state → is_built line ≡ true → list_any (same_state state) (states_of line) ≡ false → Fits database ws
-    → Moves ws (Some line) (refused (WrongState state)) (Fits database)
+pub kernel_refuses : (database : Option Database) (ws : List World) (line : Command) (state : State) → state_of database ≡ state → is_built line ≡ true → list_any (same_state state) (states_of line) ≡ false → FitsWorlds database ws
+    → Moves ws (Some line) (refused (WrongState state)) (FitsWorlds database)
 kernel_refuses database ws line state is built not_admitted fit =
-    moves_none ws (Some line) (refused (WrongState state)) (Fits database)
+    moves_none ws (Some line) (refused (WrongState state)) (FitsWorlds database)
     (entry_state no_pages ws line state built not_admitted (subst (λ (s : State). All (λ w. w.state ≡ s) ws) is (all_in database ws fit))) fit
 
 -- a line that is for an open database alone
-pub kernel_off : (database : Option Database) → database ≡ None → (ws : List World) (line : Command) → is_built line ≡ true → states_of line ≡ OnlineState ∷ [] → Fits database ws
-    → Moves ws (Some line) (refused (WrongState Offline)) (Fits database)
+pub kernel_off : (database : Option Database) → database ≡ None → (ws : List World) (line : Command) → is_built line ≡ true → states_of line ≡ OnlineState ∷ [] → FitsWorlds database ws
+    → Moves ws (Some line) (refused (WrongState Offline)) (FitsWorlds database)
 kernel_off database none ws line built states fit =
-    subst (λ (o : Option Database). Fits o ws → Moves ws (Some line) (refused (WrongState Offline)) (Fits o)) (sym none) (λ rest. moves_offline ws line built states rest) fit
+    subst (λ (o : Option Database). FitsWorlds o ws → Moves ws (Some line) (refused (WrongState Offline)) (FitsWorlds o)) (sym none) (λ rest. moves_offline ws line built states rest) fit
 
 pub kernel_admin : (database : Database) → database.access ≡ Admin → (ws : List World) (line : Command) → is_built line ≡ true → list_any (same_state AdminState) (states_of line) ≡ false → FitsOpen database ws
     → Moves ws (Some line) (refused (WrongState AdminState)) (FitsOpen database)
@@ -73,14 +75,14 @@ kernel_admin database at ws line built not_admitted fit = kernel_refuses (Some d
 
 -- what a line of a session leaves fits
 pub kernel_online : (old new : Database) → old.access ≡ Online → new.access ≡ old.access → new.ring ≡ old.ring → (ws : List World) (line : Line) (answer : Answer) → FitsOpen old ws
-    → (IsAt old ws → Moves ws line answer (IsAt new)) → Moves ws line answer (FitsOpen new)
+    → (IsAtWork old ws → Moves ws line answer (IsAtWork new)) → Moves ws line answer (FitsOpen new)
 kernel_online old new at access ring ws line answer fit does =
     let moves = does (subst (λ (a : Access). IsIn a old ws) at fit.at) in
     record {
       after = moves.after;
       entry = moves.entry;
       fit = record {
-        holds = subst (λ (r : Ring). HoldsAll r) (sym ring) fit.holds;
+        holds = subst (λ (r : Ring). HasAllCommits r) (sym ring) fit.holds;
         at = subst (λ (a : Access). IsIn a new moves.after) (sym (access ∙ at)) moves.fit;
       };
       kept = moves.kept;
@@ -88,17 +90,17 @@ kernel_online old new at access ring ws line answer fit does =
 
 -- what is open is given up
 killed_in : (access : Access) (database : Database) (ws : List World) → IsIn access database ws → Moves ws (Some Kill) (plain OfflineNow) AreOff
-killed_in Online database ws o = kill_moves database.rows.rows database.transactions (made_of database) database.ring.end_position database.ring.last_commit ws o
+killed_in Online database ws o = kill_moves database.rows.rows database.transactions (creation_of database) database.ring.end_position database.ring.last_commit ws o
 killed_in Admin database ws o =
     subst (λ (vs : List World). Moves vs (Some Kill) (plain OfflineNow) AreOff) (sym o.is)
     (record {
-      after = at_rest (made_of database) o.commits ∷ [];
-      entry = kill_admin no_pages (made_of database) o.commits;
-      fit = All-cons (λ w. off w ≡ w) (at_rest (made_of database) o.commits) [] refl (All-nil (λ w. off w ≡ w));
-      kept = kept_one (in_admin (made_of database) o.commits) (at_rest (made_of database) o.commits) refl;
+      after = at_rest (creation_of database) o.commits ∷ [];
+      entry = kill_admin no_pages (creation_of database) o.commits;
+      fit = All-cons (λ w. off w ≡ w) (at_rest (creation_of database) o.commits) [] refl (All-nil (λ w. off w ≡ w));
+      kept = kept_one (in_admin (creation_of database) o.commits) (at_rest (creation_of database) o.commits) refl;
     })
 
-pub kernel_killed : (database : Option Database) (ws : List World) → Fits database ws → Moves ws (Some Kill) (plain OfflineNow) (Fits None)
+pub kernel_killed : (database : Option Database) (ws : List World) → FitsWorlds database ws → Moves ws (Some Kill) (plain OfflineNow) (FitsWorlds None)
 kernel_killed None ws rest = kill_off ws rest
 kernel_killed (Some database) ws fit = killed_in database.access database ws fit.at
 
@@ -107,41 +109,41 @@ closed_in : (access : Access) (database : Database) (ws : List World) → IsIn a
 closed_in Online database ws o =
     subst (λ (vs : List World). Moves vs (Some DbOffline) (plain OfflineNow) AreOff) (sym o.is)
     (record {
-      after = at_rest (made_of database) o.commits ∷ [];
-      entry = offline_open no_pages (made_of database) o.commits o.sessions;
-      fit = All-cons (λ w. off w ≡ w) (at_rest (made_of database) o.commits) [] refl (All-nil (λ w. off w ≡ w));
-      kept = kept_one (working (made_of database) o.commits o.sessions) (at_rest (made_of database) o.commits) refl;
+      after = at_rest (creation_of database) o.commits ∷ [];
+      entry = offline_open no_pages (creation_of database) o.commits o.sessions;
+      fit = All-cons (λ w. off w ≡ w) (at_rest (creation_of database) o.commits) [] refl (All-nil (λ w. off w ≡ w));
+      kept = kept_one (working (creation_of database) o.commits o.sessions) (at_rest (creation_of database) o.commits) refl;
     })
 closed_in Admin database ws o =
     subst (λ (vs : List World). Moves vs (Some DbOffline) (plain OfflineNow) AreOff) (sym o.is)
     (record {
-      after = at_rest (made_of database) o.commits ∷ [];
-      entry = offline_admin no_pages (made_of database) o.commits;
-      fit = All-cons (λ w. off w ≡ w) (at_rest (made_of database) o.commits) [] refl (All-nil (λ w. off w ≡ w));
-      kept = kept_one (in_admin (made_of database) o.commits) (at_rest (made_of database) o.commits) refl;
+      after = at_rest (creation_of database) o.commits ∷ [];
+      entry = offline_admin no_pages (creation_of database) o.commits;
+      fit = All-cons (λ w. off w ≡ w) (at_rest (creation_of database) o.commits) [] refl (All-nil (λ w. off w ≡ w));
+      kept = kept_one (in_admin (creation_of database) o.commits) (at_rest (creation_of database) o.commits) refl;
     })
 
 not_false : false ≡ true → ⊥
 not_false e = cc
 
-pub kernel_closed : (database : Option Database) → is_some database ≡ true → (ws : List World) → Fits database ws → Moves ws (Some DbOffline) (plain OfflineNow) (Fits None)
+pub kernel_closed : (database : Option Database) → is_some database ≡ true → (ws : List World) → FitsWorlds database ws → Moves ws (Some DbOffline) (plain OfflineNow) (FitsWorlds None)
 kernel_closed None some ws fit = absurd (not_false some)
 kernel_closed (Some database) some ws fit = closed_in database.access database ws fit.at
 
 -- the state is told
-pub kernel_told : (database : Option Database) (ws : List World) → Fits database ws → Moves ws (Some DbState) (plain (StateIs (state_of database))) (Fits database)
-kernel_told database ws fit = moves_none ws (Some DbState) (plain (StateIs (state_of database))) (Fits database) (entry_told no_pages ws (state_of database) (all_in database ws fit)) fit
+pub kernel_told : (database : Option Database) (ws : List World) → FitsWorlds database ws → Moves ws (Some DbState) (plain (StateIs (state_of database))) (FitsWorlds database)
+kernel_told database ws fit = moves_none ws (Some DbState) (plain (StateIs (state_of database))) (FitsWorlds database) (entry_told no_pages ws (state_of database) (all_in database ws fit)) fit
 
 -- the sessions are dismissed
 pub dismissed : (old new : Database) → old.access ≡ Online → new.access ≡ Admin → new.ring ≡ old.ring → (ws : List World) → FitsOpen old ws
-    → (IsAt old ws → Moves ws (Some DbAdmin) (plain (AdminAt old.ring.last_commit)) (IsAtRest new)) → Moves ws (Some DbAdmin) (plain (AdminAt new.ring.last_commit)) (FitsOpen new)
+    → (IsAtWork old ws → Moves ws (Some DbAdmin) (plain (AdminAt old.ring.last_commit)) (IsAtRest new)) → Moves ws (Some DbAdmin) (plain (AdminAt new.ring.last_commit)) (FitsOpen new)
 dismissed old new at access ring ws fit does =
     let moves = does (subst (λ (a : Access). IsIn a old ws) at fit.at) in
     subst (λ (n : ℕ). Moves ws (Some DbAdmin) (plain (AdminAt n)) (FitsOpen new)) (ap (λ (r : Ring). r.last_commit) (sym ring))
     (record {
       after = moves.after;
       entry = moves.entry;
-      fit = record { holds = subst (λ (r : Ring). HoldsAll r) (sym ring) fit.holds; at = subst (λ (a : Access). IsIn a new moves.after) (sym access) moves.fit };
+      fit = record { holds = subst (λ (r : Ring). HasAllCommits r) (sym ring) fit.holds; at = subst (λ (a : Access). IsIn a new moves.after) (sym access) moves.fit };
       kept = moves.kept;
     })
 
@@ -152,8 +154,8 @@ admitted old at ws fit =
     let number : 0 + length o.commits ≡ old.ring.last_commit = omega (arith, o.count) in
     subst (λ (x : List World × ℕ). Moves x.0 (Some DbOnline) (plain (OnlineAt x.1)) (FitsOpen (record old { access = Online }))) (λ i. (sym o.is i, number i))
     (record {
-      after = working (made_of old) o.commits empty ∷ [];
-      entry = online_step no_pages (made_of old) o.commits;
+      after = working (creation_of old) o.commits empty ∷ [];
+      entry = online_step no_pages (creation_of old) o.commits;
       fit = record {
         holds = fit.holds;
         at = record {
@@ -162,14 +164,14 @@ admitted old at ws fit =
           is = refl;
           tables = o.tables;
           keys = o.keys;
-          stands = stands-none old.transactions (working (made_of old) o.commits empty) o.free o.unchanged refl;
+          stands = stands-none old.transactions (working (creation_of old) o.commits empty) o.free o.unchanged refl;
           most = o.most;
           ends = o.ends;
           count = o.count;
           room = o.room;
         };
       };
-      kept = kept_one (in_admin (made_of old) o.commits) (working (made_of old) o.commits empty) refl;
+      kept = kept_one (in_admin (creation_of old) o.commits) (working (creation_of old) o.commits empty) refl;
     })
 
 -- nothing is open
@@ -183,8 +185,8 @@ keys_in Admin database ws o = o.keys
 keys_in Online database ws o = o.keys
 
 -- what a commit leaves fits
-pub committed_fits : (old new : Database) → old.access ≡ Online → new.access ≡ old.access → HoldsAll new.ring → (d0 d1 : Disk) (ws : List World) (session : Session) (result : Result Reply Failed)
-    → CommitDoes d0 d1 ws session (IsAt new) result → CommitDoes d0 d1 ws session (FitsOpen new) result
+pub committed_fits : (old new : Database) → old.access ≡ Online → new.access ≡ old.access → HasAllCommits new.ring → (d0 d1 : Disk) (ws : List World) (session : Session) (result : Result Reply Failed)
+    → CommitDoes d0 d1 ws session (IsAtWork new) result → CommitDoes d0 d1 ws session (FitsOpen new) result
 committed_fits old new at access holds d0 d1 ws session (Ok reply) does = record {
   after = does.after;
   does = does.does;
@@ -193,7 +195,7 @@ committed_fits old new at access holds d0 d1 ws session (Ok reply) does = record
 committed_fits old new at access holds d0 d1 ws session (Err failed) does = does
 
 -- all transactions are given up
-pub dismissed_all : (rows : Tables) (ongoing ongoing2 : Ongoing) (made : Made) (end number : ℕ) (ws : List World) (o : IsOpen rows ongoing made end number ws)
+pub dismissed_all : (rows : Tables) (ongoing ongoing2 : Ongoing) (made : Creation) (end number : ℕ) (ws : List World) (o : IsOpen rows ongoing made end number ws)
     → ((session : ℕ) (lock : Lock) → bars ongoing2.locks session lock ≡ false) → ((session : ℕ) → changes_of ongoing2 session ≡ empty) → ongoing2.most ≡ min 1048576 (made.ring - 1)
     → Moves ws (Some DbAdmin) (plain (AdminAt number)) (IsIdle rows ongoing2 made end number)
 dismissed_all rows ongoing ongoing2 made end number ws o free unchanged most =

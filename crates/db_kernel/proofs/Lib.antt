@@ -2,7 +2,6 @@ pub mod Redoing
 pub mod Doing
 pub mod Lines
 pub mod Images
-pub mod NetRows
 pub mod Keys
 pub mod Moving
 pub mod Counting
@@ -13,7 +12,8 @@ pub mod Results
 pub mod Numbers
 pub mod Opened
 pub mod Kernels
-pub mod Behind
-pub mod Scans
+pub mod NextRows
 mod Starts
 pub mod Reaching
+pub mod Serving
+pub mod Staying

@@ -1,72 +1,56 @@
 -- Each line that is built as an entry of a run.
-use Rattle.std.proofs.Common.{◌≡◌, eq-eqb, inr, refl, sym, subst, ap, ◌∙◌, ℕ, zero, suc, ◌+◌, ◌-◌, ◌<◌, ◌≤◌, Bool, true, false, not, ◌&&◌, ◌==◌, nat_lt, cond, min, List, [], ◌∷◌, ◌++◌, Option, Some, None, option_map, unwrap_or, Contains, All, length, IsTrue, lt-ltb, le-ltb, arith}
-use Rattle.std.specs.Prelude.{if◌then◌else◌, is_some, IsSome, IsNone, option_and_then}
+use Rattle.std.proofs.Common.{◌≡◌, inr, refl, sym, subst, ap, ◌∙◌, ℕ, zero, suc, ◌+◌, ◌<◌, ◌≤◌, Bool, true, false, not, ◌&&◌, ◌==◌, nat_lt, List, [], ◌∷◌, ◌++◌, Option, Some, None, unwrap_or, Contains, All, length, IsTrue, lt-ltb, le-ltb, arith}
+use Rattle.std.specs.Prelude.{if◌then◌else◌, is_some, IsSome, IsNone}
 use Rattle.std.specs.List.{AllZip, list_any}
-use Rattle.std.specs.Ordering.{nat_cmp, eq_by_cmp}
-use Rattle.std.specs.FinMap.{FinMap, get, empty, remove, contains_key, get-insert}
-use Rattle.std.specs.Cmp.{nat_cmp_total, unsigned_tied}
+use Rattle.std.specs.Ordering.{nat_cmp}
+use Rattle.std.specs.FinMap.{FinMap, get, empty, remove}
 use Rattle.std.proofs.lemmas.List.Elements.{All-head, All-tail, All-cons, All-nil, All-append, Contains-append_left, Contains-append_right}
 use Rattle.mdb_model.specs.declared.change.Change.{Change}
-use Rattle.mdb_model.specs.declared.change.Change.TheVariants.{Put, Del}
 use Rattle.mdb_model.specs.declared.change.Commit.{Commit}
 use Rattle.mdb_model.specs.declared.name.Session.{Session}
-use Rattle.mdb_model.specs.declared.name.Table.{Table}
 use Rattle.mdb_model.specs.declared.name.State.{State}
 use Rattle.mdb_model.specs.declared.name.State.TheVariants.{Offline, Admin as AdminState, Online as OnlineState}
 use Rattle.mdb_model.specs.declared.script.Command.{Command}
-use Rattle.mdb_model.specs.declared.script.Command.TheVariants.{GetRow, PutRow, DelRow, ScanTable, CommitWork, RollbackWork, DbAdmin, DbOnline, DbOffline, DbState, Kill}
+use Rattle.mdb_model.specs.declared.script.Command.TheVariants.{CommitWork, DbAdmin, DbOnline, DbOffline, DbState, Kill}
 use Rattle.mdb_model.specs.declared.script.Refusal.{Refusal}
-use Rattle.mdb_model.specs.declared.script.Refusal.TheVariants.{Syntax, WrongState, Locked, TransactionLarge, LogFull, MemoryWanting, DeviceFailed}
-use Rattle.mdb_model.specs.declared.script.Reply.TheVariants.{Refused, NoRow, OfflineNow, PutDone, DelDone, ScanOpen, NothingToCommit, Committed, RolledBack, AdminAt, OnlineAt, StateIs}
-use Rattle.mdb_model.specs.Tables.{place_of, with_commits}
+use Rattle.mdb_model.specs.declared.script.Refusal.TheVariants.{Syntax, WrongState, LogFull, MemoryWanting, DeviceFailed}
+use Rattle.mdb_model.specs.declared.script.Reply.TheVariants.{Refused, OfflineNow, NothingToCommit, Committed, AdminAt, OnlineAt, StateIs}
 use Rattle.mdb_model.specs.Pages.{PageReading}
-use Rattle.mdb_model.specs.Worlds.{World, Transaction, Lock, ShareKey, ExclusiveKey, ShareTable, transaction, no_transaction, off, without_transaction}
-use Rattle.mdb_model.specs.Sessions.{net_changes, holder, group_bytes}
-use Rattle.mdb_model.specs.Answers.{Answer, plain, refused, row_reply}
+use Rattle.mdb_model.specs.Worlds.{World, Transaction, no_transaction, off, without_transaction}
+use Rattle.mdb_model.specs.Sessions.{net_changes, group_bytes}
+use Rattle.mdb_model.specs.Answers.{Answer, plain, refused}
 use Rattle.mdb_model.specs.Stages.{is_built, rows_in_memory}
-use Rattle.mdb_model.specs.Steps.{Facts, done, Fits, locked, changed, committed_by, has_changes, rows_of}
-use Rattle.mdb_model.specs.Refusals.{refusal, refusal_with, medium_full, first_cause, refuse_if, states_of, same_state, too_large, log_full, wrong_state}
+use Rattle.mdb_model.specs.Steps.{done, committed_by, has_changes}
+use Rattle.mdb_model.specs.Refusals.{refusal, refusal_with, first_cause, refuse_if, states_of, same_state, log_full, wrong_state}
 use Rattle.mdb_model.specs.Runs.{Step, Entry, Stepped, Starved, Failed, FoundOut, AreOutcomes, AreAllOutcomes, MayHaveSaid, may_want_memory}
-use Rattle.mdb_model.proofs.StepLemmas.{CommandStep-done, CommandStep-refused, first_cause-none}
+use Rattle.mdb_model.proofs.StepLemmas.{CommandStep-done, first_cause-none}
 use Rattle.mdb_bytes.specs.LogReading.{log_bytes}
-use Rattle.creation.specs.Standing.{Made, at_rest}
+use Rattle.standing.specs.Standing.{Creation, at_rest}
+use Rattle.session_rows.specs.Serving.{no_facts}
+use Rattle.session_rows.proofs.Entries.{OneStep, entry_refused, entry_done}
 use Rattle.db_kernel.specs.declared.database.Access.{Access}
 use Rattle.db_kernel.specs.declared.database.Access.TheVariants.{Admin, Online}
 use Rattle.db_kernel.specs.Access.{opens, opened_reply}
-use Rattle.db_kernel.specs.Working.{working, in_admin, open_of, seen_by, with_lock, with_one_change}
+use Rattle.db_kernel.specs.Working.{working, in_admin}
 
--- nothing was learnt
-abbrev pub no_facts : Facts
-no_facts = record { pages = empty; savepoint = 0; left = None; record_past_end = false; header_past_end = false }
+-- what a session has done so far
+abbrev pub open_of : FinMap nat_cmp Transaction → ℕ → Transaction
+open_of sessions session = unwrap_or (get sessions session) no_transaction
 
 -- the world of a database that was opened
-abbrev pub opened_world : Access → Made → List Commit → World
+abbrev pub opened_world : Access → Creation → List Commit → World
 opened_world Admin made commits = in_admin made commits
 opened_world Online made commits = working made commits empty
 
 module _ (reading : PageReading) where
   -- Any worlds
 
-  abbrev pub Causes : List World → Command → Refusal → Type 0
-  Causes ws line cause = All (λ w. refusal reading w no_facts line ≡ Some cause) ws
-
-  steps_refused : (ws : List World) (line : Command) (cause : Refusal) → Causes ws line cause → AllZip (λ w w'. Step reading w (Some line) (refused cause) w') ws ws
-  steps_refused [] line cause all = tt
-  steps_refused (w ∷ ws) line cause all = (
-    (no_facts, CommandStep-refused reading w no_facts line cause (All-head (λ w. refusal reading w no_facts line ≡ Some cause) w ws all)),
-    steps_refused ws line cause (All-tail (λ w. refusal reading w no_facts line ≡ Some cause) w ws all),
-  )
-
-  -- a line that each world refuses for the same cause
-  pub entry_refused : (ws : List World) (line : Command) (cause : Refusal) → Causes ws line cause → Entry reading ws (Some line) (refused cause) ws
-  entry_refused ws line cause all = Stepped (steps_refused ws line cause all)
-
   -- a line that is not built
   pub refusal_unbuilt : (w : World) (line : Command) → is_built line ≡ false → refusal reading w no_facts line ≡ Some Syntax
   refusal_unbuilt w line not_built = ap (λ (b : Bool). if b then refusal_with reading w no_facts rows_in_memory line else Some Syntax) not_built
 
   pub entry_unbuilt : (ws : List World) (line : Command) → is_built line ≡ false → Entry reading ws (Some line) (refused Syntax) ws
-  entry_unbuilt ws line not_built = entry_refused ws line Syntax (λ k d inside. refusal_unbuilt _ line not_built)
+  entry_unbuilt ws line not_built = entry_refused reading ws line Syntax (λ k d inside. refusal_unbuilt _ line not_built)
 
   -- a line for OnlineState alone, in Offline
   pub refusal_offline : (w : World) (line : Command) → is_built line ≡ true → states_of line ≡ OnlineState ∷ [] → w.state ≡ Offline → refusal reading w no_facts line ≡ Some (WrongState Offline)
@@ -79,7 +63,7 @@ module _ (reading : PageReading) where
       second_state rest some s states offline i = first_cause (refuse_if (not (list_any (same_state (offline i)) (states i))) (WrongState (offline i)) ∷ rest)
 
   pub entry_offline : (ws : List World) (line : Command) → is_built line ≡ true → states_of line ≡ OnlineState ∷ [] → All (λ w. off w ≡ w) ws → Entry reading ws (Some line) (refused (WrongState Offline)) ws
-  entry_offline ws line built states all = entry_refused ws line (WrongState Offline) (λ k d inside. refusal_offline _ line built states (sym (ap (λ (v : World). v.state) (all k d inside))))
+  entry_offline ws line built states all = entry_refused reading ws line (WrongState Offline) (λ k d inside. refusal_offline _ line built states (sym (ap (λ (v : World). v.state) (all k d inside))))
 
   -- a stop of the program, in any worlds that are off
   kill_admitted : (w : World) → w.state ≡ Offline → refusal reading w no_facts Kill ≡ None
@@ -107,217 +91,15 @@ module _ (reading : PageReading) where
 
   -- One world, which is open
 
-  abbrev pub OneStep : World → Command → Answer → World → Type 0
-  OneStep w line answer w' = Entry reading (w ∷ []) (Some line) answer (w' ∷ [])
-
-  pub entry_done : (w : World) (line : Command) → refusal reading w no_facts line ≡ None → medium_full w no_facts line ≡ None → Fits reading w no_facts line
-      → OneStep w line (done reading w no_facts line).0 (done reading w no_facts line).1
-  entry_done w line admitted fit fits = Stepped ((no_facts, CommandStep-done reading w no_facts line admitted fit fits), tt)
-
-  pub entry_starved : (w : World) (line : Command) → IsTrue (may_want_memory w (Some line)) → OneStep w line (refused MemoryWanting) w
-  entry_starved w line may = Starved ((may, refl), tt)
-
   -- An open world, with the transactions of its sessions
-  module _ (made : Made) (commits : List Commit) (sessions : FinMap nat_cmp Transaction) where
-    pub kill_open : OneStep (working made commits sessions) Kill (plain OfflineNow) (at_rest made commits)
-    kill_open = entry_done (working made commits sessions) Kill refl refl tt
+  module _ (made : Creation) (commits : List Commit) (sessions : FinMap nat_cmp Transaction) where
+    pub kill_open : OneStep reading (working made commits sessions) Kill (plain OfflineNow) (at_rest made commits)
+    kill_open = entry_done reading (working made commits sessions) Kill refl refl tt
 
     pub online_open : refusal reading (working made commits sessions) no_facts DbOnline ≡ Some (WrongState OnlineState)
     online_open = refl
 
-    -- who keeps a lock from a session
-    abbrev pub held_by : ℕ → Lock → Option Refusal
-    held_by session lock = option_map (λ other. Locked (record { 0 = other })) (holder (working made commits sessions) session lock)
-
-    held : (session : ℕ) (lock : Lock) (other : ℕ) → holder (working made commits sessions) session lock ≡ Some other → held_by session lock ≡ Some (Locked (record { 0 = other }))
-    held session lock other is = ap (option_map (λ other. Locked (record { 0 = other }))) is
-
-    free : (session : ℕ) (lock : Lock) → holder (working made commits sessions) session lock ≡ None → held_by session lock ≡ None
-    free session lock is = ap (option_map (λ other. Locked (record { 0 = other }))) is
-
-    -- a line that another session keeps off
-    kept_off : (line : Command) (other : ℕ) → refusal reading (working made commits sessions) no_facts line ≡ Some (Locked (record { 0 = other }))
-        → OneStep (working made commits sessions) line (refused (Locked (record { 0 = other }))) (working made commits sessions)
-    kept_off line other is =
-        entry_refused (working made commits sessions ∷ []) line (Locked (record { 0 = other }))
-        (All-cons (λ w. refusal reading w no_facts line ≡ Some (Locked (record { 0 = other }))) (working made commits sessions) [] is (All-nil _))
-
-    only_first : (cause : Option Refusal) → first_cause (cause ∷ None ∷ None ∷ None ∷ []) ≡ cause
-    only_first None = refl
-    only_first (Some cause) = refl
-
-    -- a read, and a scan
-
-    get_refusal : (session : Session) (table : Table) (key : List ℕ)
-        → refusal reading (working made commits sessions) no_facts (GetRow session table key) ≡ held_by session.0 (ShareKey (table.0, key))
-    get_refusal session table key = only_first (held_by session.0 (ShareKey (table.0, key)))
-
-    pub get_locked : (session : Session) (table : Table) (key : List ℕ) (other : ℕ) → holder (working made commits sessions) session.0 (ShareKey (table.0, key)) ≡ Some other
-        → OneStep (working made commits sessions) (GetRow session table key) (refused (Locked (record { 0 = other }))) (working made commits sessions)
-    get_locked session table key other is = kept_off (GetRow session table key) other (get_refusal session table key ∙ held session.0 (ShareKey (table.0, key)) other is)
-
-    pub get_step : (session : Session) (table : Table) (key : List ℕ) → holder (working made commits sessions) session.0 (ShareKey (table.0, key)) ≡ None
-        → OneStep (working made commits sessions) (GetRow session table key)
-        (plain (row_reply (get (seen_by sessions session.0 (with_commits commits empty)) (table.0, key))))
-        (working made commits (with_lock sessions session.0 (ShareKey (table.0, key))))
-    get_step session table key is =
-        entry_done (working made commits sessions) (GetRow session table key) (get_refusal session table key ∙ free session.0 (ShareKey (table.0, key)) is) refl tt
-
-    scan_refusal : (session : Session) (table : Table)
-        → refusal reading (working made commits sessions) no_facts (ScanTable session table) ≡ held_by session.0 (ShareTable table.0)
-    scan_refusal session table = only_first (held_by session.0 (ShareTable table.0))
-
-    pub scan_locked : (session : Session) (table : Table) (other : ℕ) → holder (working made commits sessions) session.0 (ShareTable table.0) ≡ Some other
-        → OneStep (working made commits sessions) (ScanTable session table) (refused (Locked (record { 0 = other }))) (working made commits sessions)
-    scan_locked session table other is = kept_off (ScanTable session table) other (scan_refusal session table ∙ held session.0 (ShareTable table.0) other is)
-
-    pub scan_step : (session : Session) (table : Table) → holder (working made commits sessions) session.0 (ShareTable table.0) ≡ None
-        → OneStep (working made commits sessions) (ScanTable session table)
-        (record { items = rows_of (seen_by sessions session.0 (with_commits commits empty)) table.0; reply = ScanOpen })
-        (working made commits (with_lock sessions session.0 (ShareTable table.0)))
-    scan_step session table is =
-        entry_done (working made commits sessions) (ScanTable session table) (scan_refusal session table ∙ free session.0 (ShareTable table.0) is) refl tt
-
-    -- a change
-
-    -- the bytes that a commit of the session has with one more change
-    abbrev pub bytes_with : ℕ → Change → ℕ
-    bytes_with session change = group_bytes (net_changes ((open_of sessions session).changes ++ change ∷ []))
-
-    -- the changes of a session with one more
-    pub after_change : (session : ℕ) (change : Change) → (transaction (changed (working made commits sessions) session change) session).changes ≡ (open_of sessions session).changes ++ change ∷ []
-    after_change session change =
-        ap (λ (o : Option Transaction). (unwrap_or o no_transaction).changes)
-        (get-insert nat_cmp_total sessions session (record { changes = (open_of sessions session).changes ++ change ∷ []; locks = ExclusiveKey (place_of change) ∷ (open_of sessions session).locks }) session
-        ∙ (λ i. cond (itself session i) (Some (record { changes = (open_of sessions session).changes ++ change ∷ []; locks = ExclusiveKey (place_of change) ∷ (open_of sessions session).locks })) (get sessions session)))
-      where
-        itself : (n : ℕ) → eq_by_cmp nat_cmp n n ≡ true
-        itself n = unsigned_tied n n ∙ eq-eqb n n refl
-
-    abbrev size_cause : ℕ → Option Refusal
-    size_cause bytes = refuse_if (nat_lt (min 1048576 (made.ring - 1)) bytes) (TransactionLarge bytes)
-
-    too_many : (bytes : ℕ) → min 1048576 (made.ring - 1) < bytes → size_cause bytes ≡ Some (TransactionLarge bytes)
-    too_many bytes large = let t : nat_lt (min 1048576 (made.ring - 1)) bytes ≡ true = lt-ltb _ _ large in λ i. refuse_if (t i) (TransactionLarge bytes)
-
-    not_too_many : (bytes : ℕ) → bytes ≤ min 1048576 (made.ring - 1) → size_cause bytes ≡ None
-    not_too_many bytes small = let t : nat_lt (min 1048576 (made.ring - 1)) bytes ≡ false = le-ltb _ _ small in λ i. refuse_if (t i) (TransactionLarge bytes)
-
-    first_two : (lock size : Option Refusal) → lock ≡ None → first_cause (lock ∷ size ∷ None ∷ None ∷ []) ≡ size
-    first_two lock size is = (λ i. first_cause (is i ∷ size ∷ None ∷ None ∷ [])) ∙ alone size
-      where
-        alone : (size : Option Refusal) → first_cause (None ∷ size ∷ None ∷ None ∷ []) ≡ size
-        alone None = refl
-        alone (Some cause) = refl
-
-    first_lock : (lock size : Option Refusal) (cause : Refusal) → lock ≡ Some cause → first_cause (lock ∷ size ∷ None ∷ None ∷ []) ≡ Some cause
-    first_lock lock size cause is i = first_cause (is i ∷ size ∷ None ∷ None ∷ [])
-
-    large : (line : Command) (bytes : ℕ) → refusal reading (working made commits sessions) no_facts line ≡ Some (TransactionLarge bytes)
-        → OneStep (working made commits sessions) line (refused (TransactionLarge bytes)) (working made commits sessions)
-    large line bytes is =
-        entry_refused (working made commits sessions ∷ []) line (TransactionLarge bytes)
-        (All-cons (λ w. refusal reading w no_facts line ≡ Some (TransactionLarge bytes)) (working made commits sessions) [] is (All-nil _))
-
-    module _ (session : Session) (table : Table) (key value : List ℕ) where
-      put_size : too_large reading (working made commits sessions) no_facts (PutRow session table key value) ≡ size_cause (bytes_with session.0 (Put table key value))
-      put_size i = size_cause (group_bytes (net_changes (after_change session.0 (Put table key value) i)))
-
-      pub put_locked : (other : ℕ) → holder (working made commits sessions) session.0 (ExclusiveKey (table.0, key)) ≡ Some other
-          → OneStep (working made commits sessions) (PutRow session table key value) (refused (Locked (record { 0 = other }))) (working made commits sessions)
-      put_locked other is =
-          kept_off (PutRow session table key value) other
-          (first_lock (held_by session.0 (ExclusiveKey (table.0, key))) (too_large reading (working made commits sessions) no_facts (PutRow session table key value)) (Locked (record { 0 = other })) (held session.0 (ExclusiveKey (table.0, key)) other is))
-
-      module _ (is : holder (working made commits sessions) session.0 (ExclusiveKey (table.0, key)) ≡ None) where
-        put_refusal : refusal reading (working made commits sessions) no_facts (PutRow session table key value) ≡ size_cause (bytes_with session.0 (Put table key value))
-        put_refusal =
-            first_two (held_by session.0 (ExclusiveKey (table.0, key))) (too_large reading (working made commits sessions) no_facts (PutRow session table key value)) (free session.0 (ExclusiveKey (table.0, key)) is)
-            ∙ put_size
-
-        pub put_large : min 1048576 (made.ring - 1) < bytes_with session.0 (Put table key value)
-            → OneStep (working made commits sessions) (PutRow session table key value) (refused (TransactionLarge (bytes_with session.0 (Put table key value)))) (working made commits sessions)
-        put_large too = large (PutRow session table key value) (bytes_with session.0 (Put table key value)) (put_refusal ∙ too_many (bytes_with session.0 (Put table key value)) too)
-
-        pub put_step : bytes_with session.0 (Put table key value) ≤ min 1048576 (made.ring - 1)
-            → OneStep (working made commits sessions) (PutRow session table key value) (plain PutDone) (working made commits (with_one_change sessions session.0 (Put table key value)))
-        put_step small = entry_done (working made commits sessions) (PutRow session table key value) (put_refusal ∙ not_too_many (bytes_with session.0 (Put table key value)) small) refl tt
-
-    module _ (session : Session) (table : Table) (key : List ℕ) where
-      -- whether the session sees a row there
-      abbrev pub sees : Bool
-      sees = contains_key (seen_by sessions session.0 (with_commits commits empty)) (table.0, key)
-
-      -- what a deletion gives, by whether there is a row
-      abbrev del_done : Bool → Answer × World
-      del_done true = (plain DelDone, changed (working made commits sessions) session.0 (Del table key))
-      del_done false = (plain NoRow, locked (working made commits sessions) session.0 (ExclusiveKey (table.0, key)))
-
-      del_done_is : (row : Bool) → contains_key (seen_by sessions session.0 (with_commits commits empty)) (table.0, key) ≡ row
-          → done reading (working made commits sessions) no_facts (DelRow session table key) ≡ del_done row
-      del_done_is row is =
-          (λ i. if is i then (plain DelDone, changed (working made commits sessions) session.0 (Del table key)) else (plain NoRow, locked (working made commits sessions) session.0 (ExclusiveKey (table.0, key))))
-          ∙ by_row row
-        where
-          by_row : (b : Bool) → (if b then (plain DelDone, changed (working made commits sessions) session.0 (Del table key)) else (plain NoRow, locked (working made commits sessions) session.0 (ExclusiveKey (table.0, key)))) ≡ del_done b
-          by_row true = refl
-          by_row false = refl
-
-      abbrev del_size : Bool → Option Refusal
-      del_size true = size_cause (bytes_with session.0 (Del table key))
-      del_size false = None
-
-      -- the answer and the world, by a test
-      abbrev del_pair : Bool → Answer × World
-      del_pair row = if row then (plain DelDone, changed (working made commits sessions) session.0 (Del table key)) else (plain NoRow, locked (working made commits sessions) session.0 (ExclusiveKey (table.0, key)))
-
-      -- the size of the changes, by a test
-      abbrev del_size_by : Bool → Option Refusal
-      del_size_by row = option_and_then (λ s. size_cause (group_bytes (net_changes (transaction (del_pair row).1 s).changes))) (if row then Some session.0 else None)
-
-      del_size_is : (row : Bool) → contains_key (seen_by sessions session.0 (with_commits commits empty)) (table.0, key) ≡ row
-          → too_large reading (working made commits sessions) no_facts (DelRow session table key) ≡ del_size row
-      del_size_is row is = (λ i. del_size_by (is i)) ∙ by_row row
-        where
-          by_row : (b : Bool) → del_size_by b ≡ del_size b
-          by_row true = λ i. size_cause (group_bytes (net_changes (after_change session.0 (Del table key) i)))
-          by_row false = refl
-
-      pub del_locked : (other : ℕ) → holder (working made commits sessions) session.0 (ExclusiveKey (table.0, key)) ≡ Some other
-          → OneStep (working made commits sessions) (DelRow session table key) (refused (Locked (record { 0 = other }))) (working made commits sessions)
-      del_locked other is =
-          kept_off (DelRow session table key) other
-          (first_lock (held_by session.0 (ExclusiveKey (table.0, key))) (too_large reading (working made commits sessions) no_facts (DelRow session table key)) (Locked (record { 0 = other })) (held session.0 (ExclusiveKey (table.0, key)) other is))
-
-      module _ (is : holder (working made commits sessions) session.0 (ExclusiveKey (table.0, key)) ≡ None) where
-        del_refusal : (row : Bool) → contains_key (seen_by sessions session.0 (with_commits commits empty)) (table.0, key) ≡ row
-            → refusal reading (working made commits sessions) no_facts (DelRow session table key) ≡ del_size row
-        del_refusal row seen =
-            first_two (held_by session.0 (ExclusiveKey (table.0, key))) (too_large reading (working made commits sessions) no_facts (DelRow session table key)) (free session.0 (ExclusiveKey (table.0, key)) is)
-            ∙ del_size_is row seen
-
-        del_entry : (row : Bool) → contains_key (seen_by sessions session.0 (with_commits commits empty)) (table.0, key) ≡ row → del_size row ≡ None
-            → OneStep (working made commits sessions) (DelRow session table key) (del_done row).0 (del_done row).1
-        del_entry row seen small =
-            subst (λ (p : Answer × World). OneStep (working made commits sessions) (DelRow session table key) p.0 p.1) (del_done_is row seen)
-            (entry_done (working made commits sessions) (DelRow session table key) (del_refusal row seen ∙ small) refl tt)
-
-        pub del_large : contains_key (seen_by sessions session.0 (with_commits commits empty)) (table.0, key) ≡ true → min 1048576 (made.ring - 1) < bytes_with session.0 (Del table key)
-            → OneStep (working made commits sessions) (DelRow session table key) (refused (TransactionLarge (bytes_with session.0 (Del table key)))) (working made commits sessions)
-        del_large seen too = large (DelRow session table key) (bytes_with session.0 (Del table key)) (del_refusal true seen ∙ too_many (bytes_with session.0 (Del table key)) too)
-
-        pub del_step : contains_key (seen_by sessions session.0 (with_commits commits empty)) (table.0, key) ≡ true → bytes_with session.0 (Del table key) ≤ min 1048576 (made.ring - 1)
-            → OneStep (working made commits sessions) (DelRow session table key) (plain DelDone) (working made commits (with_one_change sessions session.0 (Del table key)))
-        del_step seen small = del_entry true seen (not_too_many (bytes_with session.0 (Del table key)) small)
-
-        pub del_none : contains_key (seen_by sessions session.0 (with_commits commits empty)) (table.0, key) ≡ false
-            → OneStep (working made commits sessions) (DelRow session table key) (plain NoRow) (working made commits (with_lock sessions session.0 (ExclusiveKey (table.0, key))))
-        del_none seen = del_entry false seen refl
-
     -- the end of a transaction
-
-    pub rollback_step : (session : Session) → OneStep (working made commits sessions) (RollbackWork session) (plain RolledBack) (working made commits (remove sessions session.0))
-    rollback_step session = entry_done (working made commits sessions) (RollbackWork session) refl refl tt
 
     module _ (session : Session) where
       -- the changes that are committed
@@ -340,10 +122,10 @@ module _ (reading : PageReading) where
       has_some some is = ap not is
 
       -- of nothing
-      pub commit_nothing : (length (open_of sessions session.0).changes == 0) ≡ true → OneStep (working made commits sessions) (CommitWork session) (plain NothingToCommit) (working made commits (remove sessions session.0))
+      pub commit_nothing : (length (open_of sessions session.0).changes == 0) ≡ true → OneStep reading (working made commits sessions) (CommitWork session) (plain NothingToCommit) (working made commits (remove sessions session.0))
       commit_nothing none =
-          subst (λ (p : Answer × World). OneStep (working made commits sessions) (CommitWork session) p.0 p.1) result
-          (entry_done (working made commits sessions) (CommitWork session) (commit_refusal false (has_some true none)) refl tt)
+          subst (λ (p : Answer × World). OneStep reading (working made commits sessions) (CommitWork session) p.0 p.1) result
+          (entry_done reading (working made commits sessions) (CommitWork session) (commit_refusal false (has_some true none)) refl tt)
         where
           result : done reading (working made commits sessions) no_facts (CommitWork session) ≡ (plain NothingToCommit, working made commits (remove sessions session.0))
           result i = if has_some true none i then (plain (Committed (0 + length commits + 1)), committed_by (working made commits sessions) session.0) else (plain NothingToCommit, without_transaction (working made commits sessions) session.0)
@@ -353,9 +135,9 @@ module _ (reading : PageReading) where
         abbrev pub next_commits : List Commit
         next_commits = commits ++ record { changes = net_changes (open_of sessions session.0).changes } ∷ []
 
-        pub commit_full : made.ring < log_bytes commits + group_bytes net + 1 → OneStep (working made commits sessions) (CommitWork session) (refused (LogFull (log_bytes commits) made.ring)) (working made commits sessions)
+        pub commit_full : made.ring < log_bytes commits + group_bytes net + 1 → OneStep reading (working made commits sessions) (CommitWork session) (refused (LogFull (log_bytes commits) made.ring)) (working made commits sessions)
         commit_full full =
-            entry_refused (working made commits sessions ∷ []) (CommitWork session) (LogFull (log_bytes commits) made.ring)
+            entry_refused reading (working made commits sessions ∷ []) (CommitWork session) (LogFull (log_bytes commits) made.ring)
             (All-cons (λ w. refusal reading w no_facts (CommitWork session) ≡ Some (LogFull (log_bytes commits) made.ring)) (working made commits sessions) [] (commit_refusal true (has_some false some) ∙ yes_cause) (All-nil _))
           where
             yes_cause : refuse_if (nat_lt made.ring (log_bytes commits + group_bytes net + 1)) (LogFull (log_bytes commits) made.ring) ≡ Some (LogFull (log_bytes commits) made.ring)
@@ -371,10 +153,10 @@ module _ (reading : PageReading) where
           commit_result : done reading (working made commits sessions) no_facts (CommitWork session) ≡ (plain (Committed (0 + length commits + 1)), working made next_commits (remove sessions session.0))
           commit_result i = if has_some false some i then (plain (Committed (0 + length commits + 1)), committed_by (working made commits sessions) session.0) else (plain NothingToCommit, without_transaction (working made commits sessions) session.0)
 
-          pub commit_step : OneStep (working made commits sessions) (CommitWork session) (plain (Committed (0 + length commits + 1))) (working made next_commits (remove sessions session.0))
+          pub commit_step : OneStep reading (working made commits sessions) (CommitWork session) (plain (Committed (0 + length commits + 1))) (working made next_commits (remove sessions session.0))
           commit_step =
-              subst (λ (p : Answer × World). OneStep (working made commits sessions) (CommitWork session) p.0 p.1) commit_result
-              (entry_done (working made commits sessions) (CommitWork session) commit_admitted refl tt)
+              subst (λ (p : Answer × World). OneStep reading (working made commits sessions) (CommitWork session) p.0 p.1) commit_result
+              (entry_done reading (working made commits sessions) (CommitWork session) commit_admitted refl tt)
 
           -- a stop inside it leaves the commits without it or with it
           pub commit_outcomes : AreOutcomes reading (working made commits sessions) (Some (CommitWork session)) (at_rest made commits ∷ at_rest made next_commits ∷ [])
@@ -394,18 +176,18 @@ module _ (reading : PageReading) where
   abbrev pub AtRest : World → Type 0
   AtRest w = off w ≡ w
 
-  opens_alone : (access : Access) (made : Made) (commits : List Commit) → OneStep (at_rest made commits) (opens access) (plain (opened_reply access (0 + length commits))) (opened_world access made commits)
-  opens_alone Admin made commits = entry_done (at_rest made commits) DbAdmin refl refl tt
-  opens_alone Online made commits = entry_done (at_rest made commits) DbOnline refl refl tt
+  opens_alone : (access : Access) (made : Creation) (commits : List Commit) → OneStep reading (at_rest made commits) (opens access) (plain (opened_reply access (0 + length commits))) (opened_world access made commits)
+  opens_alone Admin made commits = entry_done reading (at_rest made commits) DbAdmin refl refl tt
+  opens_alone Online made commits = entry_done reading (at_rest made commits) DbOnline refl refl tt
 
-  opens_found : (access : Access) (made : Made) (commits : List Commit) (ws : List World) → 1 < length ws → Contains ws (at_rest made commits)
+  opens_found : (access : Access) (made : Creation) (commits : List Commit) (ws : List World) → 1 < length ws → Contains ws (at_rest made commits)
       → Entry reading ws (Some (opens access)) (plain (opened_reply access (0 + length commits))) (opened_world access made commits ∷ [])
   opens_found Admin made commits ws many there =
       FoundOut (at_rest made commits) (in_admin made commits) refl many there (no_facts, CommandStep-done reading (at_rest made commits) no_facts DbAdmin refl refl tt) (λ is. let e : AdminAt (0 + length commits) ≡ Refused DeviceFailed = ap (λ (a : Answer). a.reply) is in cc) (λ is. let e : AdminAt (0 + length commits) ≡ Refused MemoryWanting = ap (λ (a : Answer). a.reply) is in cc)
   opens_found Online made commits ws many there =
       FoundOut (at_rest made commits) (working made commits empty) refl many there (no_facts, CommandStep-done reading (at_rest made commits) no_facts DbOnline refl refl tt) (λ is. let e : OnlineAt (0 + length commits) ≡ Refused DeviceFailed = ap (λ (a : Answer). a.reply) is in cc) (λ is. let e : OnlineAt (0 + length commits) ≡ Refused MemoryWanting = ap (λ (a : Answer). a.reply) is in cc)
 
-  pub entry_opened : (access : Access) (made : Made) (commits : List Commit) (ws : List World) → Contains ws (at_rest made commits)
+  pub entry_opened : (access : Access) (made : Creation) (commits : List Commit) (ws : List World) → Contains ws (at_rest made commits)
       → Entry reading ws (Some (opens access)) (plain (opened_reply access (0 + length commits))) (opened_world access made commits ∷ [])
   entry_opened access made commits [] there = absurd (omega (arith, there.1))
   entry_opened access made commits (x ∷ []) (zero, inside, is) = subst (λ (u : World). Entry reading (u ∷ []) (Some (opens access)) (plain (opened_reply access (0 + length commits))) (opened_world access made commits ∷ [])) (sym is) (opens_alone access made commits)
@@ -512,7 +294,7 @@ module _ (reading : PageReading) where
 
   pub entry_state : (ws : List World) (line : Command) (state : State) → is_built line ≡ true → list_any (same_state state) (states_of line) ≡ false → All (λ w. w.state ≡ state) ws
       → Entry reading ws (Some line) (refused (WrongState state)) ws
-  entry_state ws line state built not_admitted all = entry_refused ws line (WrongState state) (λ k d inside. refusal_state _ line state built not_admitted (all k d inside))
+  entry_state ws line state built not_admitted all = entry_refused reading ws line (WrongState state) (λ k d inside. refusal_state _ line state built not_admitted (all k d inside))
 
   -- the state is told
   steps_told : (ws : List World) (state : State) → All (λ w. w.state ≡ state) ws → AllZip (λ w w'. Step reading w (Some DbState) (plain (StateIs state)) w') ws ws
@@ -530,20 +312,20 @@ module _ (reading : PageReading) where
   pub entry_told : (ws : List World) (state : State) → All (λ w. w.state ≡ state) ws → Entry reading ws (Some DbState) (plain (StateIs state)) ws
   entry_told ws state all = Stepped (steps_told ws state all)
 
-  module _ (made : Made) (commits : List Commit) where
+  module _ (made : Creation) (commits : List Commit) where
     -- from the sessions to the administrator, and back
-    pub admin_step : (sessions : FinMap nat_cmp Transaction) → OneStep (working made commits sessions) DbAdmin (plain (AdminAt (0 + length commits))) (in_admin made commits)
-    admin_step sessions = entry_done (working made commits sessions) DbAdmin refl refl tt
+    pub admin_step : (sessions : FinMap nat_cmp Transaction) → OneStep reading (working made commits sessions) DbAdmin (plain (AdminAt (0 + length commits))) (in_admin made commits)
+    admin_step sessions = entry_done reading (working made commits sessions) DbAdmin refl refl tt
 
-    pub online_step : OneStep (in_admin made commits) DbOnline (plain (OnlineAt (0 + length commits))) (working made commits empty)
-    online_step = entry_done (in_admin made commits) DbOnline refl refl tt
+    pub online_step : OneStep reading (in_admin made commits) DbOnline (plain (OnlineAt (0 + length commits))) (working made commits empty)
+    online_step = entry_done reading (in_admin made commits) DbOnline refl refl tt
 
     -- and off
-    pub offline_open : (sessions : FinMap nat_cmp Transaction) → OneStep (working made commits sessions) DbOffline (plain OfflineNow) (at_rest made commits)
-    offline_open sessions = entry_done (working made commits sessions) DbOffline refl refl tt
+    pub offline_open : (sessions : FinMap nat_cmp Transaction) → OneStep reading (working made commits sessions) DbOffline (plain OfflineNow) (at_rest made commits)
+    offline_open sessions = entry_done reading (working made commits sessions) DbOffline refl refl tt
 
-    pub offline_admin : OneStep (in_admin made commits) DbOffline (plain OfflineNow) (at_rest made commits)
-    offline_admin = entry_done (in_admin made commits) DbOffline refl refl tt
+    pub offline_admin : OneStep reading (in_admin made commits) DbOffline (plain OfflineNow) (at_rest made commits)
+    offline_admin = entry_done reading (in_admin made commits) DbOffline refl refl tt
 
-    pub kill_admin : OneStep (in_admin made commits) Kill (plain OfflineNow) (at_rest made commits)
-    kill_admin = entry_done (in_admin made commits) Kill refl refl tt
+    pub kill_admin : OneStep reading (in_admin made commits) Kill (plain OfflineNow) (at_rest made commits)
+    kill_admin = entry_done reading (in_admin made commits) Kill refl refl tt

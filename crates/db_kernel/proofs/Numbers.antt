@@ -5,7 +5,7 @@ use Rattle.std.specs.Prelude.{nat_le}
 use Rattle.std.proofs.lemmas.Bool.{leb-false}
 use Rattle.mdb_bytes.specs.declared.log_info.LogInfo.{LogInfo}
 use Rattle.mdb_bytes.specs.declared.restart_record.RestartRecord.{RestartRecord}
-use Rattle.db_kernel.specs.Damages.{start_of, is_earlier, is_past, has_past_snapshot, is_past_end, restart_numbers, info_numbers}
+use Rattle.db_kernel.specs.Damages.{log_start_of, is_earlier, is_past, has_past_snapshot, is_past_end, restart_numbers, info_numbers}
 use Rattle.db_kernel.specs.Reading.{IsLowStart}
 
 -- of two tests neither holds where one or the other does not
@@ -21,7 +21,7 @@ either_low : (b : Bool) (n m : ℕ) → n < 2 ^ 61 → m < 2 ^ 61 → cond b n m
 either_low true n m low other = low
 either_low false n m low other = other
 
-pub low_start : (restart : RestartRecord) (info : LogInfo) → (4 ≤ info.pages) × (info.pages ≤ 65536) → is_past_end restart info ≡ false → IsLowStart (start_of restart info)
+pub low_start : (restart : RestartRecord) (info : LogInfo) → (4 ≤ info.pages) × (info.pages ≤ 65536) → is_past_end restart info ≡ false → IsLowStart (log_start_of restart info)
 low_start restart info pages is =
     let parts = neither (is_past (restart_numbers restart)) (has_past_snapshot restart.snapshots.items || is_past (info_numbers info)) is in
     let more = neither (has_past_snapshot restart.snapshots.items) (is_past (info_numbers info)) parts.1 in

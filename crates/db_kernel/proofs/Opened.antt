@@ -18,24 +18,24 @@ use Rattle.mdb_model.specs.declared.script.Refusal.{Refusal}
 use Rattle.mdb_model.specs.declared.script.Refusal.TheVariants.{DeviceFailed, Damaged, RestoreOpen as ToldRestoreOpen, NumberEnd}
 use Rattle.mdb_model.specs.Images.{Image, size_of}
 use Rattle.mdb_model.specs.Worlds.{World}
-use Rattle.mdb_host.specs.Disk.{Agree, pages_of}
+use Rattle.mdb_host.specs.Disk.{Agree, page_count}
 use Rattle.mdb_host.proofs.Moments.{same_image}
 use Rattle.mdb_bytes.specs.declared.log_info.LogInfo.{LogInfo}
 use Rattle.mdb_bytes.specs.declared.restart_record.RestartRecord.{RestartRecord}
 use Rattle.mdb_bytes.specs.Firsts.{first_name, first_restart, first_log_info}
 use Rattle.mdb_bytes.specs.LogReading.{IsLog}
-use Rattle.mdb_bytes.specs.Rings.{ring_byte}
+use Rattle.mdb_bytes.specs.Rings.{ring_byte, ring_size}
 use Rattle.gate_slots.specs.declared.body.SlotBody.{SlotBody}
 use Rattle.gate_slots.specs.declared.body.SlotBody.TheVariants.{Restart, Log as LogBody}
 use Rattle.redo_ring.specs.declared.open.LogStart.{LogStart}
 use Rattle.redo_ring.specs.declared.ring.Ring.{Ring}
-use Rattle.redo_ring.specs.Opening.{ring_size, IsOpened, IsWhole, OpenEnds, OpenFinds}
+use Rattle.redo_ring.specs.Opening.{IsRingOpened, IsWhole, OpenEnds, OpenFinds}
 use Rattle.db_kernel.specs.declared.opening.Found.{Found}
-use Rattle.db_kernel.specs.Damages.{HasRestart, HasLogInfo, start_of, IsMissing, IsLogOutOfSize, IsFirstOutOfSize, IsVolumeOutOfSize, HasNoSlot, IsDamagedInFront, RefusesInFront, Refuses, is_past_end}
+use Rattle.db_kernel.specs.Damages.{HasRestart, HasLogInfo, log_start_of, IsMissing, IsLogOutOfSize, IsFirstOutOfSize, IsVolumeOutOfSize, HasNoSlot, IsDamagedInFront, RefusesInFront, Refuses, is_past_end}
 use Rattle.db_kernel.specs.Kept.{IsRingOf, OpenedIs, as_refusal}
-use Rattle.db_kernel.specs.Reading.{IsFound}
+use Rattle.db_kernel.specs.Reading.{FindsRecords}
 use Rattle.db_kernel.specs.Redo.{Redone}
-use Rattle.creation.specs.Standing.{Made, Site, HasRecords, Stands, made_at}
+use Rattle.standing.specs.Standing.{Creation, Site, HasRecords, Stands, creation_at}
 
 -- The records in force
 
@@ -58,17 +58,17 @@ info_first site image info records has = ap (the_info info) (sym has ∙ records
 abbrev pub first_start : Site → LogStart
 first_start site = record { name = first_name site.birth; pages = site.log_pages; position = 0; commit = 0; saved_position = 0; saved_commit = 0 }
 
-pub found_start : (site : Site) (image : Image) (found : Found) → HasRecords site image → IsFound found image → found.start ≡ first_start site
+pub found_start : (site : Site) (image : Image) (found : Found) → HasRecords site image → FindsRecords found image → found.start ≡ first_start site
 found_start site image found records is =
-    is.start ∙ (λ i. start_of (restart_first site image is.restart records is.has_restart i) (info_first site image is.info records is.has_info i))
+    is.start ∙ (λ i. log_start_of (restart_first site image is.restart records is.has_restart i) (info_first site image is.info records is.has_info i))
 
-pub found_blocks : (site : Site) (image : Image) (found : Found) → HasRecords site image → IsFound found image → found.blocks ≡ sum site.volumes
+pub found_blocks : (site : Site) (image : Image) (found : Found) → HasRecords site image → FindsRecords found image → found.blocks ≡ sum site.volumes
 found_blocks site image found records is = is.blocks ∙ ap (λ (r : RestartRecord). sum r.volumes.items) (restart_first site image is.restart records is.has_restart)
 
 -- Nothing is damaged in front of the log
 
 -- a device of so many pages
-pages_are : (o : Option (List ℕ)) (pages : ℕ) → size_of o ≡ Some (pages * 8192) → pages_of o ≡ Some pages
+pages_are : (o : Option (List ℕ)) (pages : ℕ) → size_of o ≡ Some (pages * 8192) → page_count o ≡ Some pages
 pages_are None pages is = absurd cc
 pages_are (Some bytes) pages is =
     let long : length bytes ≡ pages * 8192 = cc in
@@ -168,7 +168,7 @@ first_whole start old mid w st is agree =
     (record { log = st.log; room = st.room; unsaved_log = st.log; unsaved_room = st.room; ends = refl; count = refl })
 
 -- the ring that is opened ends where this log ends
-pub ring_found : (start : LogStart) (ring : Ring) (site : Site) (commits : List Commit) → start ≡ first_start site → IsOpened start ring → OpenEnds start commits (Ok ring) → IsRingOf site commits ring
+pub ring_found : (start : LogStart) (ring : Ring) (site : Site) (commits : List Commit) → start ≡ first_start site → IsRingOpened start ring → OpenEnds start commits (Ok ring) → IsRingOf site commits ring
 ring_found start ring site commits is opened ends = record {
   name = opened.name ∙ ap (λ (s : LogStart). s.name) is;
   size = opened.size ∙ ap (λ (s : LogStart). ring_size s.pages) is;
@@ -198,7 +198,7 @@ redo_refused site commits fault refusal is redone = subst (λ (r : Refusal). Ope
     by_fault (OpenDamaged damage) so = so
 
 -- where the ring that is opened is called damaged, it is
-pub ring_refuses : (found : Found) (fault : OpenFault) (refusal : Refusal) (old mid : Image) → IsFound found old → Agree old mid
+pub ring_refuses : (found : Found) (fault : OpenFault) (refusal : Refusal) (old mid : Image) → FindsRecords found old → Agree old mid
     → OpenFinds found.start (ring_byte (ring_size found.start.pages) mid) (Err fault) → refusal ≡ as_refusal fault → Refuses old refusal
 ring_refuses found fault refusal old mid is agree finds told = subst (λ (r : Refusal). Refuses old r) (sym told) (by_fault fault finds)
   where
@@ -227,14 +227,14 @@ log_in_ring ring start old mid w st is found agree =
     subst (λ (x : (ℕ × Image) × (Name × LogStart)). IsLog (ring_byte x.0.0 x.0.1) x.1.0 x.1.1.position x.1.1.commit w.history.commits)
     (λ i. ((sym found.size i, same_image old mid agree i), (sym found.name i, sym is i))) st.log
 
-pub log_opened : (ring : Ring) (start : LogStart) (mid new : Image) (commits : List Commit) → IsOpened start ring → Agree mid new
+pub log_opened : (ring : Ring) (start : LogStart) (mid new : Image) (commits : List Commit) → IsRingOpened start ring → Agree mid new
     → IsLog (ring_byte (ring_size start.pages) mid) start.name start.position start.commit commits → IsLog (ring_byte ring.size new) ring.name start.position start.commit commits
 log_opened ring start mid new commits opened agree log =
     subst (λ (x : (ℕ × Image) × Name). IsLog (ring_byte x.0.0 x.0.1) x.1 start.position start.commit commits) (λ i. ((sym opened.size i, same_image mid new agree i), sym opened.name i)) log
 
-abbrev with_blocks : Ring → (blocks : ℕ) → Made
+abbrev with_blocks : Ring → (blocks : ℕ) → Creation
 with_blocks ring blocks = record { name = ring.name; blocks = blocks; ring = ring.size }
 
 -- what the kernel knows of the name and the sizes is what the database was made with
-pub made_found : (ring : Ring) (blocks : ℕ) (site : Site) (commits : List Commit) → IsRingOf site commits ring → blocks ≡ sum site.volumes → with_blocks ring blocks ≡ made_at site
+pub made_found : (ring : Ring) (blocks : ℕ) (site : Site) (commits : List Commit) → IsRingOf site commits ring → blocks ≡ sum site.volumes → with_blocks ring blocks ≡ creation_at site
 made_found ring blocks site commits found same = λ i. record { name = found.name i; blocks = same i; ring = found.size i }

@@ -6,10 +6,10 @@ use Rattle.mdb_model.specs.Images.{Image}
 use Rattle.mdb_host.specs.Disk.{Disk, Agree}
 use Rattle.gate_slots.proofs.Kept.{force_device}
 use Rattle.creation.specs.Devices.{device_count, SyncedUpTo}
-use Rattle.creation.specs.Standing.{data_slots, log_slots}
+use Rattle.standing.specs.Standing.{data_slots, log_slots}
 use Rattle.db_kernel.specs.declared.opening.Found.{Found}
 use Rattle.db_kernel.specs.Damages.{IsPastEnd, IsInReach, EachLeft, past_end_in, are_past_end}
-use Rattle.db_kernel.specs.Reading.{IsFound}
+use Rattle.db_kernel.specs.Reading.{FindsRecords}
 
 module _ (d0 d1 : Disk) (seen : Agree d0.seen d1.seen) (synced : SyncedUpTo device_count d1) where
   data_left : (image : Image) → d1.may_leave d1.now image → image (Data 1) ≡ d0.seen (Data 1)
@@ -18,7 +18,7 @@ module _ (d0 d1 : Disk) (seen : Agree d0.seen d1.seen) (synced : SyncedUpTo devi
   log_left : (image : Image) → d1.may_leave d1.now image → image Log ≡ d0.seen Log
   log_left image left = synced 8 (omega arith) image left ∙ seen Log
 
-  pub each_in_reach : (found : Found) → IsFound found d0.seen → EachLeft d1 IsInReach
+  pub each_in_reach : (found : Found) → FindsRecords found d0.seen → EachLeft d1 IsInReach
   each_in_reach found is image left = record {
     restart = is.restart;
     has_restart = force_device data_slots d0.seen image (data_left image left) ∙ is.has_restart;

@@ -17,22 +17,24 @@ use Rattle.mdb_model.specs.Tables.{place_cmp}
 use Rattle.mdb_model.specs.Worlds.{World, off}
 use Rattle.mdb_host.specs.Disk.{Disk, Goes, Agree}
 use Rattle.mdb_host.proofs.Moments.{same_image}
+use Rattle.mdb_host.specs.Places.{device_at}
 use Rattle.mdb_bytes.specs.Firsts.{first_name}
 use Rattle.mdb_bytes.specs.Rings.{ring_byte}
 use Rattle.db_kernel.specs.declared.database.Access.{Access}
 use Rattle.db_kernel.specs.declared.database.Access.TheVariants.{Admin, Online}
 use Rattle.db_kernel.specs.declared.database.Database.{Database}
 use Rattle.db_kernel.specs.Access.{opens, opened_reply}
-use Rattle.creation.specs.Devices.{device_count, device_at, SyncedUpTo}
-use Rattle.db_kernel.specs.Kept.{AreOff, FitsOpen, IsIn, IsOf, OpenedIs, made_of}
-use Rattle.db_kernel.specs.Sessions.{HasKeys}
-use Rattle.creation.specs.Standing.{Made, Stands, at_rest, made_at, ring_of}
-use Rattle.db_kernel.specs.Stretch.{Stand, Completes}
-use Rattle.db_kernel.specs.Working.{StandsOf, no_pages, working, in_admin}
+use Rattle.creation.specs.Devices.{device_count, SyncedUpTo}
+use Rattle.db_kernel.specs.Kept.{AreOff, FitsOpen, IsIn, IsOf, OpenedIs, creation_of}
+use Rattle.session_rows.specs.Serving.{HasKeys}
+use Rattle.standing.specs.Standing.{Creation, Stands, at_rest, creation_at, ring_of}
+use Rattle.db_kernel.specs.Stretch.{LeavesOnly, Completes}
+use Rattle.session_rows.specs.Serving.{no_pages}
+use Rattle.db_kernel.specs.Working.{StandsForOneOf, working, in_admin}
 use Rattle.db_kernel.proofs.Doing.{does_calm}
 use Rattle.db_kernel.proofs.Keys.{keys_of_log}
 use Rattle.db_kernel.proofs.Lines.{entry_opened, opening_starves, opening_fails, opened_world}
-use Rattle.creation.proofs.RecordLaws.{AgreeOn, stands_agree}
+use Rattle.standing.proofs.RecordLaws.{AgreeOn, stands_agree}
 
 -- the devices by their numbers
 volume_is : (i : ℕ) → i < 8 → device_at i ≡ Data (i + 1)
@@ -53,16 +55,16 @@ devices_agree d1 before image same synced left = record {
 }
 
 -- a database that was opened is at rest again as it is closed
-off_opened : (access : Access) (made : Made) (commits : List Commit) → off (opened_world access made commits) ≡ at_rest made commits
+off_opened : (access : Access) (made : Creation) (commits : List Commit) → off (opened_world access made commits) ≡ at_rest made commits
 off_opened Admin made commits = refl
 off_opened Online made commits = refl
 
-module _ (access : Access) (d0 d1 : Disk) (ws : List World) (rest : AreOff ws) (stand : Stand no_pages Stands d0 ws) (calm : Goes d0 d1 Agree) where
+module _ (access : Access) (d0 d1 : Disk) (ws : List World) (rest : AreOff ws) (stand : LeavesOnly no_pages Stands d0 ws) (calm : Goes d0 d1 Agree) where
   -- each image since stands for what it did
-  standing : (image : Image) → d1.may_leave d1.now image → StandsOf ws image
+  standing : (image : Image) → d1.may_leave d1.now image → StandsForOneOf ws image
   standing image left =
       let a = calm.since d1.now image calm.keeps.later (omega arith) left in
-      subst (λ (i : Image). StandsOf ws i) (same_image a.0 image a.2) (stand a.0 a.1)
+      subst (λ (i : Image). StandsForOneOf ws i) (same_image a.0 image a.2) (stand a.0 a.1)
 
   pub opening_starved : Completes no_pages Stands d0 d1 ws (Some (opens access)) (refused MemoryWanting) AreOff
   opening_starved = record {
@@ -73,7 +75,7 @@ module _ (access : Access) (d0 d1 : Disk) (ws : List World) (rest : AreOff ws) (
 
   module _ (seen_left : d0.may_leave d0.now d0.seen) where
     -- what a read gives stands for a world
-    abbrev pub here : StandsOf ws d0.seen
+    abbrev pub here : StandsForOneOf ws d0.seen
     here = stand d0.seen seen_left
 
     pub opening_failed : Completes no_pages Stands d0 d1 ws (Some (opens access)) (refused DeviceFailed) AreOff
@@ -112,8 +114,8 @@ module _ (access : Access) (d0 d1 : Disk) (ws : List World) (rest : AreOff ws) (
     opening_refused NumberEnd is = absurd is
 
     module _ (synced : SyncedUpTo device_count d1) (seen_same : Agree d0.seen d1.seen) where
-      abbrev made : Made
-      made = made_at here.2.site
+      abbrev made : Creation
+      made = creation_at here.2.site
 
       abbrev commits : List Commit
       commits = here.0.history.commits
@@ -130,7 +132,7 @@ module _ (access : Access) (d0 d1 : Disk) (ws : List World) (rest : AreOff ws) (
         keys = subst HasKeys (sym is.rows) (keys_of_log (ring_byte (ring_of here.2.site) d0.seen) (first_name here.2.site.birth) 0 0 commits here.2.log empty (λ table. get-empty place_cmp (table, [])))
 
         room : database.ring.end_position < database.ring.size
-        room = omega (arith, is.at_end, ap (λ (m : Made). m.ring) is.made, here.2.room)
+        room = omega (arith, is.at_end, ap (λ (m : Creation). m.ring) is.made, here.2.room)
 
         fit_in : (a : Access) → IsIn a database (opened_world a made commits ∷ [])
         fit_in Admin = record {
@@ -151,7 +153,7 @@ module _ (access : Access) (d0 d1 : Disk) (ws : List World) (rest : AreOff ws) (
           is = λ i. working (sym is.made i) commits empty ∷ [];
           tables = is.rows;
           keys = keys;
-          stands = stands-none database.transactions (working (made_of database) commits empty) is.free is.unchanged refl;
+          stands = stands-none database.transactions (working (creation_of database) commits empty) is.free is.unchanged refl;
           most = is.most;
           ends = is.at_end;
           count = is.at_last;

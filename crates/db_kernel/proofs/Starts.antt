@@ -21,9 +21,9 @@ use Rattle.mdb_model.specs.Pages.{PageReading}
 use Rattle.mdb_model.specs.Steps.{backups_of}
 use Rattle.mdb_model.specs.Worlds.{World, Lock, Transaction, transaction, no_transaction}
 use Rattle.mdb_model.proofs.Computing.{entries-empty}
-use Rattle.creation.specs.Standing.{Made, Stands, at_rest, made_at}
+use Rattle.standing.specs.Standing.{Creation, Stands, at_rest, creation_at}
 use Rattle.db_kernel.specs.Starting.{own_age}
-use Rattle.db_kernel.specs.Working.{no_pages}
+use Rattle.session_rows.specs.Serving.{no_pages}
 
 -- Names are in a total order.
 names_total : IsTotalOrder name_cmp
@@ -52,7 +52,7 @@ only_name name h other q found = by_test (eq_by_cmp name_cmp q name) (sym (get-i
   by_test true there = refl
   by_test false there = let none : ◌≡◌ {A = Option History} None (Some other) = sym (get-empty name_cmp q) ∙ there in cc
 
-module _ (reading : PageReading) (made : Made) (commits : List Commit) where
+module _ (reading : PageReading) (made : Creation) (commits : List Commit) where
   abbrev world : World
   world = at_rest made commits
 
@@ -102,7 +102,7 @@ pub starts : (said : ℕ → List ℕ) (may_leave : ℕ → Image → Type 0) (n
 starts said may_leave now seen left w stand =
     let s = stand seen left in
     let Fits : World → Type 0 = λ w. IsSound no_pages w × (w.state ≡ Offline) × Agrees no_pages w (own_age w) in
-    let fits : Fits w = subst Fits (sym s.is) (is_sound no_pages (made_at s.site) w.history.commits, refl, agrees no_pages (made_at s.site) w.history.commits) in
+    let fits : Fits w = subst Fits (sym s.is) (is_sound no_pages (creation_at s.site) w.history.commits, refl, agrees no_pages (creation_at s.site) w.history.commits) in
     record {
       worlds = all_one (λ (e : World × Ages). IsSound no_pages e.0 × (e.0.state ≡ Offline) × Agrees no_pages e.0 e.1) (w, own_age w) fits;
       images = λ image may. ((w, own_age w), (0, omega arith, refl), stand image may);

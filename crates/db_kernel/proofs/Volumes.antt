@@ -6,12 +6,12 @@ use Rattle.mdb_model.specs.declared.fault.Device.TheVariants.{Data}
 use Rattle.mdb_model.specs.declared.fault.Rule.TheVariants.{Size}
 use Rattle.mdb_model.specs.declared.script.Refusal.TheVariants.{Damaged}
 use Rattle.mdb_model.specs.Images.{Image}
-use Rattle.mdb_host.specs.Disk.{pages_of}
+use Rattle.mdb_host.specs.Disk.{page_count}
 use Rattle.mdb_bytes.specs.declared.restart_record.RestartRecord.{RestartRecord}
 use Rattle.db_kernel.specs.Damages.{HasRestart, RefusesInFront, whole_damage}
 
 module _ (image : Image) (restart : RestartRecord) (volume : ℕ) (has : HasRestart image restart) (inside : volume < length restart.volumes.items) where
-  pub other_size : (pages : ℕ) → Some pages ≡ pages_of (image (Data (volume + 1))) → (pages ≡ get_or restart.volumes.items volume 0 → ⊥) → RefusesInFront image (Damaged (whole_damage (Data (volume + 1)) Size))
+  pub other_size : (pages : ℕ) → Some pages ≡ page_count (image (Data (volume + 1))) → (pages ≡ get_or restart.volumes.items volume 0 → ⊥) → RefusesInFront image (Damaged (whole_damage (Data (volume + 1)) Size))
   other_size pages are other =
       inr (inr (inr (inl (record { restart = restart; in_force = has; volume = volume; inside = inside; is = refl; wrong = inl (λ same. other (some_is pages (get_or restart.volumes.items volume 0) (are ∙ same))) }))))
     where

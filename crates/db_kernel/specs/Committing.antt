@@ -8,11 +8,11 @@ use Rattle.mdb_model.specs.declared.script.Refusal.TheVariants.{DeviceFailed}
 use Rattle.mdb_model.specs.declared.script.Reply.{Reply}
 use Rattle.mdb_model.specs.Worlds.{World}
 use Rattle.mdb_model.specs.Answers.{plain, refused}
-use Rattle.creation.specs.Standing.{Stands}
+use Rattle.standing.specs.Standing.{Stands}
 use Rattle.mdb_host.specs.Disk.{Disk}
 use Rattle.db_kernel.specs.Kept.{AreOff}
 use Rattle.db_kernel.specs.Stretch.{Completes}
-use Rattle.db_kernel.specs.Working.{no_pages}
+use Rattle.session_rows.specs.Serving.{no_pages}
 
 abbrev pub CommitDoes : (old new : Disk) → List World → Session → (fits : List World → Type 0)
     → Result Reply Failed → Type 0

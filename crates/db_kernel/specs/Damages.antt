@@ -1,13 +1,13 @@
 -- Why an opening may be refused.
 --     whole_damage      a device breaks a rule as a whole
---     start_of      where the log begins, by the records in force
+--     log_start_of      where the log begins, by the records in force
 --     IsDamaged      the bytes of an image break this rule
 --     IsRestoring, IsPastEnd      the record says that a restore is open; a number is past the end
 --         of all numbers
 --     past_end_in, IsInReach      the same as a test of a line and an image; neither is so
 --     RefusesInFront, Refuses      the image has what reading its records, and an opening, is
 --         refused for
---     TellsDamage, IsInside      a refusal that tells of the devices has it; a reply that tells
+--     RefusalReports, IsInside      a refusal that tells of the devices has it; a reply that tells
 --         nothing of the outside
 use Rattle.std.specs.Prelude.{◌≡◌, ◌≢◌, ◌⊎◌, ℕ, ◌+◌, ◌^◌, ◌<◌, nat_lt, nat_le, if◌then◌else◌, List, [], ◌∷◌, length, get_or, sum, take, Bool, false, ◌||◌, IsTrue, Option, Some, None, Err}
 use Rattle.std.specs.List.{list_any}
@@ -24,18 +24,18 @@ use Rattle.mdb_model.specs.declared.script.Reply.TheVariants.{Refused}
 use Rattle.mdb_model.specs.declared.script.Command.{Command}
 use Rattle.mdb_model.specs.declared.script.Command.TheVariants.{DbAdmin, DbOnline}
 use Rattle.mdb_model.specs.Images.{Image}
-use Rattle.mdb_host.specs.Disk.{Disk, pages_of}
+use Rattle.mdb_host.specs.Disk.{Disk, page_count}
 use Rattle.mdb_bytes.specs.declared.log_info.LogInfo.{LogInfo}
 use Rattle.mdb_bytes.specs.declared.restart_record.AreaState.TheVariants.{Normal, RestoreOpen}
 use Rattle.mdb_bytes.specs.declared.restart_record.RestartRecord.{RestartRecord}
 use Rattle.mdb_bytes.specs.declared.restart_record.SnapshotEntry.{SnapshotEntry}
-use Rattle.mdb_bytes.specs.Rings.{ring_byte}
+use Rattle.mdb_bytes.specs.Rings.{ring_byte, ring_size}
 use Rattle.gate_slots.specs.declared.body.SlotBody.{SlotBody}
 use Rattle.gate_slots.specs.declared.body.SlotBody.TheVariants.{Restart, Log as LogBody}
 use Rattle.gate_slots.specs.Slots.{in_force}
 use Rattle.redo_ring.specs.declared.open.LogStart.{LogStart}
-use Rattle.redo_ring.specs.Opening.{ring_size, OpenFinds}
-use Rattle.creation.specs.Standing.{data_slots, log_slots}
+use Rattle.redo_ring.specs.Opening.{OpenFinds}
+use Rattle.standing.specs.Standing.{data_slots, log_slots}
 
 -- a device breaks a rule as a whole
 abbrev pub whole_damage : Device → Rule → Damage
@@ -54,8 +54,8 @@ abbrev pub is_earlier : RestartRecord → LogInfo → Bool
 is_earlier restart info = nat_lt info.name.generation restart.name.generation
 
 -- where the log begins
-abbrev pub start_of : RestartRecord → LogInfo → LogStart
-start_of restart info = record {
+abbrev pub log_start_of : RestartRecord → LogInfo → LogStart
+log_start_of restart info = record {
   name = restart.name;
   pages = info.pages;
   position = restart.position;
@@ -82,14 +82,14 @@ IsMissing image damage =
 -- the log volume has too few or too many pages, or others than the log info says
 abbrev pub IsLogOutOfSize : Image → Damage → Type 0
 IsLogOutOfSize image damage =
-    (pages : ℕ) × (pages_of (image Log) ≡ Some pages) × (damage ≡ whole_damage Log Size)
+    (pages : ℕ) × (page_count (image Log) ≡ Some pages) × (damage ≡ whole_damage Log Size)
     × ((pages < 4) ⊎ ((65536 < pages) ⊎ ((info : LogInfo) × HasLogInfo image info
     × (info.pages ≢ pages))))
 
 -- the first data volume has too few or too many
 abbrev pub IsFirstOutOfSize : Image → Damage → Type 0
 IsFirstOutOfSize image damage =
-    (pages : ℕ) × (pages_of (image (Data 1)) ≡ Some pages) × (damage ≡ whole_damage (Data 1) Size)
+    (pages : ℕ) × (page_count (image (Data 1)) ≡ Some pages) × (damage ≡ whole_damage (Data 1) Size)
     × ((pages < 64) ⊎ (65536 < pages))
 
 -- a data volume has other pages than the record says, or those in the record break the limits of a
@@ -100,7 +100,8 @@ pub record IsVolumeOutOfSize (image : Image) (damage : Damage) : Type 0 where
   pub volume : ℕ
   pub inside : volume < length restart.volumes.items
   pub is : damage ≡ whole_damage (Data (volume + 1)) Size
-  pub wrong : (pages_of (image (Data (volume + 1))) ≢ Some (get_or restart.volumes.items volume 0))
+  pub wrong : (page_count (image (Data (volume + 1)))
+      ≢ Some (get_or restart.volumes.items volume 0))
       ⊎ ((get_or restart.volumes.items volume 0 < 64)
       ⊎ ((65536 < sum (take (volume + 1) restart.volumes.items))
       ⊎ ((volume + 1 ≡ length restart.volumes.items) × (sum restart.volumes.items < 512))))
@@ -116,7 +117,7 @@ HasNoSlot image damage =
 abbrev pub HasBrokenLog : Image → Damage → Type 0
 HasBrokenLog image damage =
     (restart : RestartRecord) × HasRestart image restart × ((info : LogInfo) × HasLogInfo image info
-    × OpenFinds (start_of restart info) (ring_byte (ring_size info.pages) image)
+    × OpenFinds (log_start_of restart info) (ring_byte (ring_size info.pages) image)
     (Err (Damaged damage)))
 
 -- damage that shows before the log is read
@@ -213,11 +214,11 @@ Refuses image MemoryWanting = Unit {0}
 Refuses image _ = ⊥
 
 -- a refusal that tells of the devices has it in the image
-abbrev pub TellsDamage : Image → Refusal → Type 0
-TellsDamage image (ToldDamaged damage) = IsDamaged image damage
-TellsDamage image ToldRestoreOpen = IsRestoring image
-TellsDamage image NumberEnd = IsPastEnd image
-TellsDamage image _ = Unit {0}
+abbrev pub RefusalReports : Image → Refusal → Type 0
+RefusalReports image (ToldDamaged damage) = IsDamaged image damage
+RefusalReports image ToldRestoreOpen = IsRestoring image
+RefusalReports image NumberEnd = IsPastEnd image
+RefusalReports image _ = Unit {0}
 
 -- a reply that tells nothing of the devices
 abbrev pub IsInside : Reply → Type 0
@@ -229,5 +230,5 @@ IsInside _ = Unit {0}
 
 -- a reply that tells of the devices has it in the image
 abbrev pub RepliesDamage : Image → Reply → Type 0
-RepliesDamage image (Refused refusal) = TellsDamage image refusal
+RepliesDamage image (Refused refusal) = RefusalReports image refusal
 RepliesDamage image _ = Unit {0}

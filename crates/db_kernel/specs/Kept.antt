@@ -1,8 +1,8 @@
 -- What a kernel keeps, against the worlds that may be.
 --     IsWholeLog, Ready      the numbers of an open database fit each other
---     made_of, HoldsAll      the name and the sizes, and that all commits stand in the log
---     IsAt, IsAtRest, AreOff, Fits      a kernel with an open database, and one with none, against
---         the worlds that may be
+--     creation_of, HasAllCommits      the name and the sizes, and that all commits stand in the log
+--     IsAtWork, IsAtRest, AreOff, FitsWorlds      a kernel with an open database, and one with
+--         none, against the worlds that may be
 --     Meets      the log of an open database is there
 --     answer_of, AreFew, AreKeyed, NextIs      the answer to a line with the rows of a scan, and
 --         how these are asked for
@@ -38,8 +38,11 @@ use Rattle.redo_ring.specs.Calls.{InOrder}
 use Rattle.db_kernel.specs.declared.database.Database.{Database}
 use Rattle.db_kernel.specs.declared.database.Access.{Access}
 use Rattle.db_kernel.specs.declared.database.Access.TheVariants.{Admin, Online}
-use Rattle.creation.specs.Standing.{Made, Site, ring_of, made_at}
-use Rattle.db_kernel.specs.Sessions.{IsOpen, IsIdle, HasKeys, scan_answer, seen_rows}
+use Rattle.standing.specs.Standing.{Creation, Site, ring_of, creation_at}
+use Rattle.session_rows.specs.Replies.{scan_answer}
+use Rattle.session_rows.specs.Scan.{seen_rows}
+use Rattle.session_rows.specs.Serving.{HasKeys}
+use Rattle.db_kernel.specs.Sessions.{IsOpen, IsIdle}
 
 -- The numbers of a log fit each other: it has fewer bytes behind where a restart begins than the
 -- ring, and there is room for the numbers of all commits that it may still have.
@@ -56,40 +59,40 @@ Ready None = Unit {0}
 Ready (Some database) = IsWholeLog database.ring
 
 -- what the kernel knows of the name and the sizes
-abbrev pub made_of : Database → Made
-made_of database =
+abbrev pub creation_of : Database → Creation
+creation_of database =
     record { name = database.ring.name; blocks = database.blocks; ring = database.ring.size }
 
 -- a restart begins with the first commit, and nothing is saved
-pub record HoldsAll (ring : Ring) : Type 0 where
+pub record HasAllCommits (ring : Ring) : Type 0 where
   pub redo : ring.redo_position ≡ 0
   pub saved : ring.saved_position ≡ 0
 
-abbrev pub IsAt : Database → List World → Type 0
-IsAt database ws =
-    IsOpen database.rows.rows database.transactions (made_of database) database.ring.end_position
-    database.ring.last_commit ws
+abbrev pub IsAtWork : Database → List World → Type 0
+IsAtWork database ws =
+    IsOpen database.rows.rows database.transactions (creation_of database)
+    database.ring.end_position database.ring.last_commit ws
 
 abbrev pub IsAtRest : Database → List World → Type 0
 IsAtRest database ws =
-    IsIdle database.rows.rows database.transactions (made_of database) database.ring.end_position
-    database.ring.last_commit ws
+    IsIdle database.rows.rows database.transactions (creation_of database)
+    database.ring.end_position database.ring.last_commit ws
 
 -- as it is open, in Online or in Admin
 abbrev pub IsIn : Access → Database → List World → Type 0
-IsIn Online database ws = IsAt database ws
+IsIn Online database ws = IsAtWork database ws
 IsIn Admin database ws = IsAtRest database ws
 
 pub record FitsOpen (database : Database) (ws : List World) : Type 0 where
-  pub holds : HoldsAll database.ring
+  pub holds : HasAllCommits database.ring
   pub at : IsIn database.access database ws
 
 abbrev pub AreOff : List World → Type 0
 AreOff ws = All (λ w. off w ≡ w) ws
 
-abbrev pub Fits : Option Database → List World → Type 0
-Fits None ws = AreOff ws
-Fits (Some database) ws = FitsOpen database ws
+abbrev pub FitsWorlds : Option Database → List World → Type 0
+FitsWorlds None ws = AreOff ws
+FitsWorlds (Some database) ws = FitsOpen database ws
 
 abbrev pub Meets : Option Database → Image → Type 0
 Meets None image = Unit {0}
@@ -139,7 +142,7 @@ as_refusal (OpenDamaged damage) = Damaged damage
 pub record IsRingOf (site : Site) (commits : List Commit) (ring : Ring) : Type 0 where
   pub name : ring.name ≡ first_name site.birth
   pub size : ring.size ≡ ring_of site
-  pub holds : HoldsAll ring
+  pub holds : HasAllCommits ring
   pub at_end : ring.end_position ≡ log_bytes commits
   pub at_last : ring.last_commit ≡ length commits
 
@@ -151,8 +154,8 @@ RingIs site commits (Err _) = ⊥
 
 -- and its rows are made
 pub record IsOf (site : Site) (commits : List Commit) (database : Database) : Type 0 where
-  pub made : made_of database ≡ made_at site
-  pub holds : HoldsAll database.ring
+  pub made : creation_of database ≡ creation_at site
+  pub holds : HasAllCommits database.ring
   pub at_end : database.ring.end_position ≡ log_bytes commits
   pub at_last : database.ring.last_commit ≡ length commits
   pub rows : database.rows.rows ≡ with_commits commits empty

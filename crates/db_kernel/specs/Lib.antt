@@ -1,5 +1,4 @@
 pub mod Rows
-pub mod Scan
 pub mod Redo
 pub mod Stretch
 pub mod Working
@@ -11,3 +10,4 @@ pub mod Reading
 pub mod Access
 pub mod Starting
 pub mod Refusing
+pub mod Taking

@@ -2,7 +2,7 @@
 --     VolumeFits      a data volume is as the record says
 --     IsAreaSize      how many blocks the volumes of the record have together
 --     IsLowStart      where a log begins
---     IsFound      what the records say
+--     FindsRecords      what the records say
 use Rattle.std.specs.Prelude.{◌≡◌, ℕ, ◌+◌, ◌*◌, ◌^◌, ◌<◌, ◌≤◌, get_or, sum, false, Some}
 use Rattle.mdb_model.specs.declared.fault.Device.TheVariants.{Data}
 use Rattle.mdb_model.specs.Images.{Image, size_of}
@@ -11,7 +11,7 @@ use Rattle.mdb_bytes.specs.declared.log_info.LogInfo.{LogInfo}
 use Rattle.mdb_bytes.specs.declared.restart_record.RestartRecord.{RestartRecord}
 use Rattle.redo_ring.specs.declared.open.LogStart.{LogStart}
 use Rattle.db_kernel.specs.declared.opening.Found.{Found}
-use Rattle.db_kernel.specs.Damages.{HasRestart, HasLogInfo, start_of, is_past_end}
+use Rattle.db_kernel.specs.Damages.{HasRestart, HasLogInfo, log_start_of, is_past_end}
 
 -- a data volume has the pages that the record says, and no fewer than a volume may have
 pub record VolumeFits (restart : RestartRecord) (volume : ℕ) (image : Image) : Type 0 where
@@ -36,12 +36,12 @@ pub record IsLowStart (start : LogStart) : Type 0 where
   pub generation : start.name.generation < 2 ^ 61
 
 -- what is found are the start of the log and the blocks, by the records in force
-pub record IsFound (found : Found) (image : Image) : Type 0 where
+pub record FindsRecords (found : Found) (image : Image) : Type 0 where
   pub restart : RestartRecord
   pub has_restart : HasRestart image restart
   pub info : LogInfo
   pub has_info : HasLogInfo image info
-  pub start : found.start ≡ start_of restart info
+  pub start : found.start ≡ log_start_of restart info
   pub blocks : found.blocks ≡ sum restart.volumes.items
   -- no restore is open, and no number is past the end
   pub normal : restart.state ≡ Normal

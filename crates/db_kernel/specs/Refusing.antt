@@ -1,6 +1,5 @@
 -- What a refusal leaves, whatever the outside is.
---     IsRefusal      a reply that is a refusal
---     Stays      an open database as it was
+--     KeepsDatabase      an open database as it was
 --     RefusalLeaves      after damage and a failed device the kernel is off, after any other
 --         refusal all is as before
 use Rattle.std.specs.Prelude.{◌≡◌, Option, Some, None}
@@ -9,12 +8,8 @@ use Rattle.mdb_model.specs.declared.script.Reply.{Reply}
 use Rattle.mdb_model.specs.declared.script.Reply.TheVariants.{Refused}
 use Rattle.db_kernel.specs.declared.database.Database.{Database}
 
-abbrev pub IsRefusal : Reply → Type 0
-IsRefusal (Refused refusal) = Unit {0}
-IsRefusal _ = ⊥
-
 -- the same sessions may work with the same rows, changes, locks and log
-pub record Stays (old new : Database) : Type 0 where
+pub record KeepsDatabase (old new : Database) : Type 0 where
   pub access : new.access ≡ old.access
   pub blocks : new.blocks ≡ old.blocks
   pub rows : new.rows.rows ≡ old.rows.rows
@@ -24,7 +19,7 @@ pub record Stays (old new : Database) : Type 0 where
 -- a kernel is as it was: off, or with its database as it was
 abbrev pub IsAsBefore : Option Database → Option Database → Type 0
 IsAsBefore None None = Unit {0}
-IsAsBefore (Some old) (Some new) = Stays old new
+IsAsBefore (Some old) (Some new) = KeepsDatabase old new
 IsAsBefore None (Some new) = ⊥
 IsAsBefore (Some old) None = ⊥
 

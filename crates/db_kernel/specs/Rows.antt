@@ -3,10 +3,7 @@
 --         are stored
 --     row_place, row_entry, row_parts      where a row stands, its entry, and its key and value
 --     rows_alone      what the rows in memory hold
---     IsBehind      where the first one behind a key stands
-use Rattle.std.specs.Prelude.{◌≡◌, ◌≢◌, refl, ℕ, ◌<◌, ◌≤◌, List, [], length, slice_index_or}
-use Rattle.std.specs.declared.cmp.Ordering.{Ordering}
-use Rattle.std.specs.declared.cmp.Ordering.TheVariants.{Greater}
+use Rattle.std.specs.Prelude.{refl, ℕ, List, []}
 use Rattle.std.specs.Coded.{Coded, code_by, coded×, coded_ℕ, coded_list}
 use Rattle.std.specs.FinMap as fin
 use Rattle.mdb_model.specs.Tables.{Place, Tables}
@@ -47,13 +44,3 @@ rows_alone rows =
       log = record
           { name = record { birth = 0; generation = 1 }; after = 0; commits = [] };
     }
-
-module _ {K X : Type 0} (order : K → K → Ordering) (key_of : X → K) (items : List X)
-    (key : K) (at : ℕ) where
-  -- the items before the index have keys up to this one, and those from it on greater ones
-  pub record IsBehind : Type 0 where
-    pub in_range : at ≤ length items
-    pub upto_before : (j : ℕ) (d : X) → j < at
-        → order (key_of (slice_index_or items j d)) key ≢ Greater
-    pub greater_after : (j : ℕ) (d : X) → at ≤ j → j < length items
-        → order (key_of (slice_index_or items j d)) key ≡ Greater

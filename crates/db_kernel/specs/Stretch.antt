@@ -1,5 +1,6 @@
 -- One line as a stretch of a run of the machine, over a host that tells what it holds.
---     Stand      each image that a crash may leave now stands for one of the worlds, in Offline
+--     LeavesOnly      each image that a crash may leave now stands for one of the worlds, in
+--         Offline
 --     MayBe      what a stop before or in a line may leave
 --     Does, Completes      a line was done, and nothing is said yet; to worlds that fit
 use Rattle.std.specs.Prelude.{◌≡◌, ◌⊎◌, ℕ, ◌≤◌, List, Contains}
@@ -11,8 +12,8 @@ use Rattle.mdb_model.specs.Runs.{Line, Entry, AreOutcomes}
 use Rattle.mdb_host.specs.Disk.{Disk, Keeps}
 
 module _ (reading : PageReading) (stands : Image → World → Type 0) where
-  abbrev pub Stand : Disk → List World → Type 0
-  Stand disk ws =
+  abbrev pub LeavesOnly : Disk → List World → Type 0
+  LeavesOnly disk ws =
       (image : Image) → disk.may_leave disk.now image
       → (w : World) × Contains ws w × stands image (off w)
 
@@ -31,7 +32,7 @@ module _ (reading : PageReading) (stands : Image → World → Type 0) where
     -- at each moment since, each image stands for the world before it or for an outcome
     pub stop : (t : ℕ) (image : Image) → old.now ≤ t → t ≤ new.now → new.may_leave t image
         → (v : World) × stands image v × MayBe ws line v
-    pub stand : Stand new after
+    pub stand : LeavesOnly new after
 
   pub record Completes (old new : Disk) (ws : List World) (line : Line) (answer : Answer)
       (fits : List World → Type 0) : Type 0 where

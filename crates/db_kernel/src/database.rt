@@ -1,5 +1,5 @@
 //! An open database: its rows in memory, what its sessions have locked and changed, and its log.
-ghost use Rattle.std.specs.Prelude.{◌≡◌, ℕ, ◌+◌, ◌-◌, ◌<◌, ◌≤◌, ◌^◌, List, map, min, length, IfOk, OnOk, OnErr, IsTrue, Some, Err};
+ghost use Rattle.std.specs.Prelude.{◌≡◌, ℕ, ◌+◌, ◌-◌, ◌<◌, ◌≤◌, ◌^◌, List, map, min, length, IfOk, IfErr, OnOk, OnErr, IsTrue, Some, Ok, Err};
 ghost use Rattle.std.specs.List.{list_all};
 ghost use Rattle.std.specs.FinMap.{len, values};
 ghost use Rattle.mdb_model.specs.Answers.{plain};
@@ -19,27 +19,31 @@ ghost use Rattle.mdb_bytes.specs.Held.{next_row, IsNextRow};
 ghost use Rattle.mdb_bytes.specs.Rings.{HasRing};
 ghost use Rattle.redo_ring.specs.Calls.{AppendAnswer, Untouched};
 ghost use Rattle.redo_ring.specs.Ring.{Appends, Appended};
-ghost use Rattle.transactions.specs.Ongoing.{changes_of, Ended};
+ghost use Rattle.transactions.specs.Ongoing.{changes_of, EndsTransaction};
 ghost use Rattle.db_kernel.specs.Committing.{CommitDoes};
 ghost use Rattle.db_kernel.specs.Damages.{IsInside};
 ghost use Rattle.db_kernel.specs.declared.database.Access.TheVariants.{Admin};
-ghost use Rattle.db_kernel.specs.Kept.{IsWholeLog, HoldsAll, IsAt, IsAtRest, FitsOpen};
-ghost use Rattle.db_kernel.specs.Refusing.{IsRefusal, Stays};
-ghost use Rattle.db_kernel.specs.Sessions.{HasKeys, scan_answer, seen_rows};
-ghost use Rattle.creation.specs.Standing.{Stands};
-ghost use Rattle.db_kernel.specs.Stretch.{Stand};
-ghost use Rattle.db_kernel.specs.Working.{Moves, no_pages};
+ghost use Rattle.db_kernel.specs.Kept.{IsWholeLog, HasAllCommits, IsAtWork, IsAtRest, FitsOpen};
+ghost use Rattle.session_rows.specs.Replies.{IsRefusal};
+ghost use Rattle.db_kernel.specs.Refusing.{KeepsDatabase};
+ghost use Rattle.session_rows.specs.Replies.{scan_answer};
+ghost use Rattle.session_rows.specs.Scan.{seen_rows};
+ghost use Rattle.session_rows.specs.Serving.{HasKeys};
+ghost use Rattle.standing.specs.Standing.{Stands};
+ghost use Rattle.db_kernel.specs.Stretch.{LeavesOnly};
+ghost use Rattle.session_rows.specs.Serving.{no_pages};
+ghost use Rattle.db_kernel.specs.Working.{Moves};
 
-use crate::replies::{del_answer, get_answer, put_answer, scan_opened};
 use crate::rows::MemRows;
-use crate::scan::next_seen;
 use mdb_bytes::{GroupBuf, encode_group};
 use mdb_host::{Failed, Host};
 use mdb_model::bytes::{Key, KeyBuf, Value, ValueBuf};
 use mdb_model::change::Change;
+use mdb_model::fault::PageFault;
 use mdb_model::name::{Session, State, Table};
 use mdb_model::script::{Refusal, Reply};
 use redo_ring::{Ring, RingFault};
+use session_rows::{Room, del_row, get_row, give_up, next_seen, open_scan, put_row};
 use std::alloc::Global;
 use transactions::Transactions;
 
@@ -78,7 +82,7 @@ impl Database {
         ensures moves { (ws : List World) → FitsOpen self.old ws
             → Moves ws (Some (GetRow session table key.now)) (plain result) (FitsOpen self.new) }
         ensures inside { IsInside result }
-        ensures refused { IsRefusal result → Stays self.old self.new }
+        ensures refused { IsRefusal result → KeepsDatabase self.old self.new }
     {
         match self.access {
             Access::Admin => Reply::Refused(Refusal::WrongState(State::Admin)),
@@ -95,7 +99,7 @@ impl Database {
             → Moves ws (Some (PutRow session table key.now value.now)) (plain result)
             (FitsOpen self.new) }
         ensures inside { IsInside result }
-        ensures refused { IsRefusal result → Stays self.old self.new }
+        ensures refused { IsRefusal result → KeepsDatabase self.old self.new }
     {
         match self.access {
             Access::Admin => Reply::Refused(Refusal::WrongState(State::Admin)),
@@ -111,7 +115,7 @@ impl Database {
         ensures moves { (ws : List World) → FitsOpen self.old ws
             → Moves ws (Some (DelRow session table key.now)) (plain result) (FitsOpen self.new) }
         ensures inside { IsInside result }
-        ensures refused { IsRefusal result → Stays self.old self.new }
+        ensures refused { IsRefusal result → KeepsDatabase self.old self.new }
     {
         match self.access {
             Access::Admin => Reply::Refused(Refusal::WrongState(State::Admin)),
@@ -126,7 +130,7 @@ impl Database {
         ensures moves { (ws : List World) → FitsOpen self.old ws
             → Moves ws (Some (RollbackWork session)) (plain result) (FitsOpen self.new) }
         ensures inside { IsInside result }
-        ensures refused { IsRefusal result → Stays self.old self.new }
+        ensures refused { IsRefusal result → KeepsDatabase self.old self.new }
     {
         match self.access {
             Access::Admin => Reply::Refused(Refusal::WrongState(State::Admin)),
@@ -147,7 +151,7 @@ impl Database {
         ensures few { length (rows_of (seen_rows self.new.rows.rows self.new.transactions session.0)
             table.0) < 2 ^ 64 }
         ensures inside { IsInside result }
-        ensures refused { IsRefusal result → Stays self.old self.new }
+        ensures refused { IsRefusal result → KeepsDatabase self.old self.new }
     {
         // A scan has no more rows than these, so they can be counted.
         let _most = self.rows.len() + self.transactions.changed(session) as usize;
@@ -168,11 +172,11 @@ impl Database {
         ensures ring { H.tells → HasRing self.old.ring.size (H.disk host.new).seen }
         ensures keeps { H.tells → Keeps (H.disk host.old) (H.disk host.new) }
         ensures does { H.tells → (ws : List World) → FitsOpen self.old ws
-            → Stand no_pages Stands (H.disk host.old) ws
+            → LeavesOnly no_pages Stands (H.disk host.old) ws
             → CommitDoes (H.disk host.old) (H.disk host.new) ws session (FitsOpen self.new) result }
         ensures cause { HasCause (H.faults host.old) (H.faults host.new) result }
         ensures inside { IfOk result IsInside }
-        ensures refused { IfOk result (λ reply. IsRefusal reply → Stays self.old self.new) }
+        ensures refused { IfOk result (λ reply. IsRefusal reply → KeepsDatabase self.old self.new) }
         ensures say_faults { H.say_faults host.new ≡ H.say_faults host.old }
     {
         match self.access {
@@ -188,7 +192,7 @@ impl Database {
         ensures moves { (ws : List World) → FitsOpen self.old ws
             → Moves ws (Some DbAdmin) (plain result) (FitsOpen self.new) }
         ensures inside { IsInside result }
-        ensures refused { IsRefusal result → Stays self.old self.new }
+        ensures refused { IsRefusal result → KeepsDatabase self.old self.new }
     {
         match self.access {
             Access::Admin => Reply::Refused(Refusal::WrongState(State::Admin)),
@@ -205,7 +209,7 @@ impl Database {
         ensures moves { (ws : List World) → FitsOpen self.old ws
             → Moves ws (Some DbOnline) (plain result) (FitsOpen self.new) }
         ensures inside { IsInside result }
-        ensures refused { IsRefusal result → Stays self.old self.new }
+        ensures refused { IsRefusal result → KeepsDatabase self.old self.new }
     {
         match self.access {
             Access::Online => Reply::Refused(Refusal::WrongState(State::Online)),
@@ -223,16 +227,13 @@ impl Database {
         requires key { IsTrue (is_key key.now) }
         ensures ring { self.new.ring ≡ self.old.ring }
         ensures access { self.new.access ≡ self.old.access }
-        ensures moves { (ws : List World) → IsAt self.old ws
-            → Moves ws (Some (GetRow session table key.now)) (plain result) (IsAt self.new) }
+        ensures moves { (ws : List World) → IsAtWork self.old ws
+            → Moves ws (Some (GetRow session table key.now)) (plain result) (IsAtWork self.new) }
         ensures inside { IsInside result }
-        ensures refused { IsRefusal result → Stays self.old self.new }
+        ensures refused { IsRefusal result → KeepsDatabase self.old self.new }
     {
-        let mut value = ValueBuf::new();
-        let found = self
-            .transactions
-            .get(&mut self.rows, session, table, key, &mut value);
-        get_answer(found, value)
+        let (transactions, rows) = (&mut self.transactions, &mut self.rows);
+        reply_of(get_row(transactions, rows, session, table, key))
     }
 
     // Puts a value, in the session's transaction alone.
@@ -241,16 +242,14 @@ impl Database {
         requires fits { IsTrue (change_fits (Put table key.now value.now)) }
         ensures ring { self.new.ring ≡ self.old.ring }
         ensures access { self.new.access ≡ self.old.access }
-        ensures moves { (ws : List World) → IsAt self.old ws
+        ensures moves { (ws : List World) → IsAtWork self.old ws
             → Moves ws (Some (PutRow session table key.now value.now)) (plain result)
-            (IsAt self.new) }
+            (IsAtWork self.new) }
         ensures inside { IsInside result }
-        ensures refused { IsRefusal result → Stays self.old self.new }
+        ensures refused { IsRefusal result → KeepsDatabase self.old self.new }
     {
-        let done = self
-            .transactions
-            .put(&mut self.rows, true, session, table, key, value);
-        put_answer(done)
+        let (transactions, rows) = (&mut self.transactions, &mut self.rows);
+        reply_of(put_row(transactions, rows, Room::Enough, session, table, key, value))
     }
 
     // Deletes a row that the session sees, in its transaction alone.
@@ -259,15 +258,13 @@ impl Database {
         requires fits { IsTrue (change_fits (Del table key.now)) }
         ensures ring { self.new.ring ≡ self.old.ring }
         ensures access { self.new.access ≡ self.old.access }
-        ensures moves { (ws : List World) → IsAt self.old ws
-            → Moves ws (Some (DelRow session table key.now)) (plain result) (IsAt self.new) }
+        ensures moves { (ws : List World) → IsAtWork self.old ws
+            → Moves ws (Some (DelRow session table key.now)) (plain result) (IsAtWork self.new) }
         ensures inside { IsInside result }
-        ensures refused { IsRefusal result → Stays self.old self.new }
+        ensures refused { IsRefusal result → KeepsDatabase self.old self.new }
     {
-        let found = self
-            .transactions
-            .del(&mut self.rows, true, session, table, key);
-        del_answer(found)
+        let (transactions, rows) = (&mut self.transactions, &mut self.rows);
+        reply_of(del_row(transactions, rows, Room::Enough, session, table, key))
     }
 
     // Locks a table for a scan. Its rows are then asked for one at a time.
@@ -275,25 +272,25 @@ impl Database {
         requires session { IsTrue (is_session session.0) }
         ensures ring { self.new.ring ≡ self.old.ring }
         ensures access { self.new.access ≡ self.old.access }
-        ensures moves { (ws : List World) → IsAt self.old ws
+        ensures moves { (ws : List World) → IsAtWork self.old ws
             → Moves ws (Some (ScanTable session table))
             (scan_answer (seen_rows self.new.rows.rows self.new.transactions session.0) table
-            result) (IsAt self.new) }
-        ensures keyed { (ws : List World) → IsAt self.old ws
+            result) (IsAtWork self.new) }
+        ensures keyed { (ws : List World) → IsAtWork self.old ws
             → HasKeys (seen_rows self.new.rows.rows self.new.transactions session.0) }
         ensures few { length (rows_of (seen_rows self.new.rows.rows self.new.transactions session.0)
             table.0) < 2 ^ 64 }
         ensures inside { IsInside result }
-        ensures refused { IsRefusal result → Stays self.old self.new }
+        ensures refused { IsRefusal result → KeepsDatabase self.old self.new }
     {
         // A scan has no more rows than these, so they can be counted.
         let _most = self.rows.len() + self.transactions.changed(session) as usize;
-        scan_opened(self.transactions.scan(session, table))
+        open_scan(&mut self.transactions, session, table)
     }
 
     /// The first row of a table behind a key, as the session sees it; false where there is none.
     pub fn scan_next(
-        &self,
+        &mut self,
         session: Session,
         table: Table,
         after: &KeyBuf,
@@ -301,19 +298,15 @@ impl Database {
         value: &mut ValueBuf,
     ) -> bool
         requires session { IsTrue (is_session session.0) }
-        ensures { IsNextRow result (next_row
-            (seen_rows self.now.rows.rows self.now.transactions session.0) table.0 after.now.items)
+        requires table { IsTrue (is_table table.0) }
+        ensures next { IsNextRow result (next_row
+            (seen_rows self.old.rows.rows self.old.transactions session.0) table.0 after.now.items)
             key.new.items value.new.items }
+        ensures same { KeepsDatabase self.old self.new }
     {
-        next_seen(
-            &self.rows,
-            &self.transactions,
-            session,
-            table,
-            after,
-            key,
-            value,
-        )
+        let (transactions, rows) = (&self.transactions, &mut self.rows);
+        // Rows in memory never fail to be read.
+        next_seen(transactions, rows, session, table, after, key, value).unwrap_or(false)
     }
 
     // Gives up the session's transaction.
@@ -321,13 +314,12 @@ impl Database {
         requires session { IsTrue (is_session session.0) }
         ensures ring { self.new.ring ≡ self.old.ring }
         ensures access { self.new.access ≡ self.old.access }
-        ensures moves { (ws : List World) → IsAt self.old ws
-            → Moves ws (Some (RollbackWork session)) (plain result) (IsAt self.new) }
+        ensures moves { (ws : List World) → IsAtWork self.old ws
+            → Moves ws (Some (RollbackWork session)) (plain result) (IsAtWork self.new) }
         ensures inside { IsInside result }
-        ensures refused { IsRefusal result → Stays self.old self.new }
+        ensures refused { IsRefusal result → KeepsDatabase self.old self.new }
     {
-        self.transactions.rollback(session);
-        Reply::RolledBack
+        give_up(&mut self.transactions, session)
     }
 
     // Commits the session's transaction. Where a device fails, only reading the log again shows
@@ -338,16 +330,17 @@ impl Database {
         requires ring { H.tells → HasRing self.old.ring.size (H.disk host.old).seen }
         ensures log { IsWholeLog self.new.ring }
         ensures size { self.new.ring.size ≡ self.old.ring.size }
-        ensures holds { HoldsAll self.old.ring → HoldsAll self.new.ring }
+        ensures holds { HasAllCommits self.old.ring → HasAllCommits self.new.ring }
         ensures access { self.new.access ≡ self.old.access }
         ensures ring { H.tells → HasRing self.old.ring.size (H.disk host.new).seen }
         ensures keeps { H.tells → Keeps (H.disk host.old) (H.disk host.new) }
-        ensures does { H.tells → (ws : List World) → HoldsAll self.old.ring → IsAt self.old ws
-            → Stand no_pages Stands (H.disk host.old) ws
-            → CommitDoes (H.disk host.old) (H.disk host.new) ws session (IsAt self.new) result }
+        ensures does { H.tells → (ws : List World) → HasAllCommits self.old.ring
+            → IsAtWork self.old ws
+            → LeavesOnly no_pages Stands (H.disk host.old) ws
+            → CommitDoes (H.disk host.old) (H.disk host.new) ws session (IsAtWork self.new) result }
         ensures cause { HasCause (H.faults host.old) (H.faults host.new) result }
         ensures inside { IfOk result IsInside }
-        ensures refused { IfOk result (λ reply. IsRefusal reply → Stays self.old self.new) }
+        ensures refused { IfOk result (λ reply. IsRefusal reply → KeepsDatabase self.old self.new) }
         ensures say_faults { H.say_faults host.new ≡ H.say_faults host.old }
     {
         if self.transactions.changed(session) == 0 {
@@ -382,7 +375,7 @@ impl Database {
         requires log { IsWholeLog self.old.ring }
         ensures ring { self.new.ring ≡ self.old.ring }
         ensures access { self.new.access ≡ Admin }
-        ensures moves { (ws : List World) → IsAt self.old ws
+        ensures moves { (ws : List World) → IsAtWork self.old ws
             → Moves ws (Some DbAdmin) (plain (AdminAt self.old.ring.last_commit))
             (IsAtRest self.new) }
     {
@@ -399,13 +392,24 @@ impl Database {
         ensures rows { self.new.rows.rows
             ≡ with_changes (values (changes_of self.old.transactions session.0))
             self.old.rows.rows }
-        ensures ended { Ended self.old.transactions self.new.transactions session.0 }
+        ensures ended { EndsTransaction self.old.transactions self.new.transactions session.0 }
         ensures ring { self.new.ring ≡ self.old.ring }
         ensures blocks { self.new.blocks ≡ self.old.blocks }
         ensures access { self.new.access ≡ self.old.access }
     {
         self.rows.apply_all(changes);
         self.transactions.ended(session);
+    }
+}
+
+// The reply to a line over rows in memory, which never fail to be read.
+fn reply_of(answer: Result<Reply, PageFault>) -> Reply
+    requires { IfErr answer (λ fault. ⊥) }
+    ensures { answer ≡ Ok result }
+{
+    match answer {
+        Ok(reply) => reply,
+        Err(_) => Reply::Refused(Refusal::DeviceFailed),
     }
 }
 

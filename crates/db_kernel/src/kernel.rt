@@ -1,23 +1,23 @@
 //! The kernel takes the lines of a script one by one.
 ghost use Rattle.std.specs.Prelude.{◌≡◌, ℕ, ◌≤◌, ◌<◌, ◌^◌, List, IsTrue, IsSome, Some, None, length, true};
 ghost use Rattle.mdb_model.specs.Answers.{plain};
-ghost use Rattle.mdb_model.specs.Causes.{Rose};
 ghost use Rattle.mdb_model.specs.declared.change.Change.TheVariants.{Put, Del};
 ghost use Rattle.mdb_model.specs.declared.script.Command.TheVariants.{GetRow, PutRow, DelRow, ScanTable, CommitWork, RollbackWork, DbAdmin, DbOnline, DbOffline, Kill};
-ghost use Rattle.mdb_model.specs.Headline.{IsOpenReply};
 ghost use Rattle.mdb_model.specs.Images.{Image};
 ghost use Rattle.mdb_model.specs.Script.{is_in_range, is_session, is_table, is_key};
 ghost use Rattle.mdb_model.specs.Worlds.{World};
-ghost use Rattle.mdb_host.specs.Disk.{Disk, Keeps};
+ghost use Rattle.mdb_host.specs.Disk.{Disk};
 ghost use Rattle.mdb_bytes.specs.Groups.{change_fits};
-ghost use Rattle.db_kernel.specs.Damages.{IsInside, RepliesDamage, EachLeft, IsInReach, IsOpener, past_end_in};
-ghost use Rattle.db_kernel.specs.Refusing.{RefusalLeaves};
-ghost use Rattle.db_kernel.specs.Kept.{Ready, Meets, Fits, answer_of, scanned_rows, AreFew, AreKeyed, NextIs};
-ghost use Rattle.db_kernel.specs.Sessions.{scan_answer};
+ghost use Rattle.db_kernel.specs.Damages.{IsInside};
+ghost use Rattle.db_kernel.specs.Refusing.{IsAsBefore, RefusalLeaves};
+ghost use Rattle.db_kernel.specs.Kept.{Ready, Meets, FitsWorlds, answer_of, scanned_rows, AreFew, AreKeyed, NextIs};
+ghost use Rattle.session_rows.specs.Replies.{scan_answer};
 ghost use Rattle.db_kernel.specs.Access.{opens, opened_reply, state_of};
-ghost use Rattle.creation.specs.Standing.{Stands};
-ghost use Rattle.db_kernel.specs.Stretch.{Stand, Completes};
-ghost use Rattle.db_kernel.specs.Working.{Moves, no_pages};
+ghost use Rattle.standing.specs.Standing.{Stands};
+ghost use Rattle.db_kernel.specs.Taking.{TakesLine};
+ghost use Rattle.db_kernel.specs.Stretch.{LeavesOnly, Completes};
+ghost use Rattle.session_rows.specs.Serving.{no_pages};
+ghost use Rattle.db_kernel.specs.Working.{Moves};
 
 use crate::database::{Access, Database};
 use crate::opening::open_database;
@@ -64,26 +64,15 @@ impl Kernel {
         requires range { IsTrue (is_in_range line.now) }
         requires ready { Ready self.old.database }
         requires meets { H.tells → Meets self.old.database (H.disk host.old).seen }
-        ensures ready { Ready self.new.database }
-        ensures meets { H.tells → Meets self.new.database (H.disk host.new).seen }
-        ensures keeps { H.tells → Keeps (H.disk host.old) (H.disk host.new) }
-        ensures does { H.tells → (ws : List World) → Fits self.old.database ws
-            → Stand no_pages Stands (H.disk host.old) ws
+        ensures takes { TakesLine H.tells (H.disk host.old) (H.disk host.new) (H.faults host.old)
+            (H.faults host.new) self.old.database self.new.database line.now result }
+        ensures does { H.tells → (ws : List World) → FitsWorlds self.old.database ws
+            → LeavesOnly no_pages Stands (H.disk host.old) ws
             → Completes no_pages Stands (H.disk host.old) (H.disk host.new) ws (Some line.now)
-            (answer_of line.now self.new.database result) (Fits self.new.database) }
+            (answer_of line.now self.new.database result) (FitsWorlds self.new.database) }
         ensures few { AreFew line.now self.new.database }
-        ensures keyed { H.tells → (ws : List World) → Fits self.old.database ws
+        ensures keyed { H.tells → (ws : List World) → FitsWorlds self.old.database ws
             → AreKeyed line.now self.new.database }
-        ensures in_reach { H.tells → self.old.database ≡ None → IsOpener line.now
-            → IsOpenReply result
-            → EachLeft (H.disk host.new) IsInReach }
-        ensures past_end { H.tells → result ≡ Reply.Refused Refusal.NumberEnd
-            → EachLeft (H.disk host.new) (λ image. past_end_in line.now image ≡ true) }
-        ensures later { H.faults host.old ≤ H.faults host.new }
-        ensures cause { result ≡ Reply.Refused Refusal.DeviceFailed
-            → Rose (H.faults host.old) (H.faults host.new) }
-        ensures damage { H.tells → RepliesDamage (H.disk host.old).seen result }
-        ensures refused { RefusalLeaves self.old.database self.new.database result }
         ensures say_faults { H.say_faults host.new ≡ H.say_faults host.old }
     {
         match line {
@@ -119,7 +108,7 @@ impl Kernel {
     /// The next row of a scan that is open: the first one behind a key, which is empty at its
     /// start.
     pub fn scan_next(
-        &self,
+        &mut self,
         session: Session,
         table: Table,
         after: &KeyBuf,
@@ -127,10 +116,12 @@ impl Kernel {
         value: &mut ValueBuf,
     ) -> Next
         requires session { IsTrue (is_session session.0) }
-        ensures { NextIs self.now.database session table after.now.items key.new.items
+        requires table { IsTrue (is_table table.0) }
+        ensures next { NextIs self.old.database session table after.now.items key.new.items
             value.new.items result }
+        ensures same { IsAsBefore self.old.database self.new.database }
     {
-        let Some(database) = &self.database else {
+        let Some(database) = &mut self.database else {
             return Next::Fault(Reply::Refused(Refusal::WrongState(State::Offline)));
         };
         if database.scan_next(session, table, after, key, value) {
@@ -148,9 +139,9 @@ impl Kernel {
         ensures ready { Ready self.new.database }
         ensures meets { (image : Image) → Meets self.old.database image
             → Meets self.new.database image }
-        ensures moves { (ws : List World) → Fits self.old.database ws
+        ensures moves { (ws : List World) → FitsWorlds self.old.database ws
             → Moves ws (Some (GetRow session table key.now)) (plain result)
-            (Fits self.new.database) }
+            (FitsWorlds self.new.database) }
         ensures inside { IsInside result }
         ensures refused { RefusalLeaves self.old.database self.new.database result }
     {
@@ -167,9 +158,9 @@ impl Kernel {
         ensures ready { Ready self.new.database }
         ensures meets { (image : Image) → Meets self.old.database image
             → Meets self.new.database image }
-        ensures moves { (ws : List World) → Fits self.old.database ws
+        ensures moves { (ws : List World) → FitsWorlds self.old.database ws
             → Moves ws (Some (PutRow session table key.now value.now)) (plain result)
-            (Fits self.new.database) }
+            (FitsWorlds self.new.database) }
         ensures inside { IsInside result }
         ensures refused { RefusalLeaves self.old.database self.new.database result }
     {
@@ -186,9 +177,9 @@ impl Kernel {
         ensures ready { Ready self.new.database }
         ensures meets { (image : Image) → Meets self.old.database image
             → Meets self.new.database image }
-        ensures moves { (ws : List World) → Fits self.old.database ws
+        ensures moves { (ws : List World) → FitsWorlds self.old.database ws
             → Moves ws (Some (DelRow session table key.now)) (plain result)
-            (Fits self.new.database) }
+            (FitsWorlds self.new.database) }
         ensures inside { IsInside result }
         ensures refused { RefusalLeaves self.old.database self.new.database result }
     {
@@ -204,12 +195,12 @@ impl Kernel {
         ensures ready { Ready self.new.database }
         ensures meets { (image : Image) → Meets self.old.database image
             → Meets self.new.database image }
-        ensures moves { (ws : List World) → Fits self.old.database ws
+        ensures moves { (ws : List World) → FitsWorlds self.old.database ws
             → Moves ws (Some (ScanTable session table))
             (scan_answer (scanned_rows self.new.database session) table result)
-            (Fits self.new.database) }
+            (FitsWorlds self.new.database) }
         ensures few { AreFew (ScanTable session table) self.new.database }
-        ensures keyed { (ws : List World) → Fits self.old.database ws
+        ensures keyed { (ws : List World) → FitsWorlds self.old.database ws
             → AreKeyed (ScanTable session table) self.new.database }
         ensures inside { IsInside result }
         ensures refused { RefusalLeaves self.old.database self.new.database result }
@@ -226,8 +217,8 @@ impl Kernel {
         ensures ready { Ready self.new.database }
         ensures meets { (image : Image) → Meets self.old.database image
             → Meets self.new.database image }
-        ensures moves { (ws : List World) → Fits self.old.database ws
-            → Moves ws (Some (RollbackWork session)) (plain result) (Fits self.new.database) }
+        ensures moves { (ws : List World) → FitsWorlds self.old.database ws
+            → Moves ws (Some (RollbackWork session)) (plain result) (FitsWorlds self.new.database) }
         ensures inside { IsInside result }
         ensures refused { RefusalLeaves self.old.database self.new.database result }
     {
@@ -239,8 +230,8 @@ impl Kernel {
 
     fn kill(&mut self) -> Reply
         ensures off { self.new.database ≡ None }
-        ensures moves { (ws : List World) → Fits self.old.database ws
-            → Moves ws (Some Kill) (plain result) (Fits self.new.database) }
+        ensures moves { (ws : List World) → FitsWorlds self.old.database ws
+            → Moves ws (Some Kill) (plain result) (FitsWorlds self.new.database) }
         ensures inside { IsInside result }
         ensures refused { RefusalLeaves self.old.database self.new.database result }
     {
@@ -252,19 +243,12 @@ impl Kernel {
         requires session { IsTrue (is_session session.0) }
         requires ready { Ready self.old.database }
         requires meets { H.tells → Meets self.old.database (H.disk host.old).seen }
-        ensures ready { Ready self.new.database }
-        ensures meets { H.tells → Meets self.new.database (H.disk host.new).seen }
-        ensures keeps { H.tells → Keeps (H.disk host.old) (H.disk host.new) }
-        ensures does { H.tells → (ws : List World) → Fits self.old.database ws
-            → Stand no_pages Stands (H.disk host.old) ws
+        ensures takes { TakesLine H.tells (H.disk host.old) (H.disk host.new) (H.faults host.old)
+            (H.faults host.new) self.old.database self.new.database (CommitWork session) result }
+        ensures does { H.tells → (ws : List World) → FitsWorlds self.old.database ws
+            → LeavesOnly no_pages Stands (H.disk host.old) ws
             → Completes no_pages Stands (H.disk host.old) (H.disk host.new) ws
-            (Some (CommitWork session)) (plain result) (Fits self.new.database) }
-        ensures no_end { result ≡ Reply.Refused Refusal.NumberEnd → ⊥ }
-        ensures later { H.faults host.old ≤ H.faults host.new }
-        ensures cause { result ≡ Reply.Refused Refusal.DeviceFailed
-            → Rose (H.faults host.old) (H.faults host.new) }
-        ensures damage { H.tells → RepliesDamage (H.disk host.old).seen result }
-        ensures refused { RefusalLeaves self.old.database self.new.database result }
+            (Some (CommitWork session)) (plain result) (FitsWorlds self.new.database) }
         ensures say_faults { H.say_faults host.new ≡ H.say_faults host.old }
     {
         let Some(database) = &mut self.database else {
@@ -283,22 +267,12 @@ impl Kernel {
     fn go_admin<H: Host>(&mut self, host: &mut H) -> Reply
         requires ready { Ready self.old.database }
         requires meets { H.tells → Meets self.old.database (H.disk host.old).seen }
-        ensures ready { Ready self.new.database }
-        ensures meets { H.tells → Meets self.new.database (H.disk host.new).seen }
-        ensures keeps { H.tells → Keeps (H.disk host.old) (H.disk host.new) }
-        ensures does { H.tells → (ws : List World) → Fits self.old.database ws
-            → Stand no_pages Stands (H.disk host.old) ws
+        ensures takes { TakesLine H.tells (H.disk host.old) (H.disk host.new) (H.faults host.old)
+            (H.faults host.new) self.old.database self.new.database DbAdmin result }
+        ensures does { H.tells → (ws : List World) → FitsWorlds self.old.database ws
+            → LeavesOnly no_pages Stands (H.disk host.old) ws
             → Completes no_pages Stands (H.disk host.old) (H.disk host.new) ws (Some DbAdmin)
-            (plain result) (Fits self.new.database) }
-        ensures in_reach { H.tells → self.old.database ≡ None → IsOpenReply result
-            → EachLeft (H.disk host.new) IsInReach }
-        ensures past_end { H.tells → result ≡ Reply.Refused Refusal.NumberEnd
-            → EachLeft (H.disk host.new) (λ image. past_end_in DbAdmin image ≡ true) }
-        ensures later { H.faults host.old ≤ H.faults host.new }
-        ensures cause { result ≡ Reply.Refused Refusal.DeviceFailed
-            → Rose (H.faults host.old) (H.faults host.new) }
-        ensures damage { H.tells → RepliesDamage (H.disk host.old).seen result }
-        ensures refused { RefusalLeaves self.old.database self.new.database result }
+            (plain result) (FitsWorlds self.new.database) }
         ensures say_faults { H.say_faults host.new ≡ H.say_faults host.old }
     {
         let alloc = self.alloc;
@@ -312,22 +286,12 @@ impl Kernel {
     fn go_online<H: Host>(&mut self, host: &mut H) -> Reply
         requires ready { Ready self.old.database }
         requires meets { H.tells → Meets self.old.database (H.disk host.old).seen }
-        ensures ready { Ready self.new.database }
-        ensures meets { H.tells → Meets self.new.database (H.disk host.new).seen }
-        ensures keeps { H.tells → Keeps (H.disk host.old) (H.disk host.new) }
-        ensures does { H.tells → (ws : List World) → Fits self.old.database ws
-            → Stand no_pages Stands (H.disk host.old) ws
+        ensures takes { TakesLine H.tells (H.disk host.old) (H.disk host.new) (H.faults host.old)
+            (H.faults host.new) self.old.database self.new.database DbOnline result }
+        ensures does { H.tells → (ws : List World) → FitsWorlds self.old.database ws
+            → LeavesOnly no_pages Stands (H.disk host.old) ws
             → Completes no_pages Stands (H.disk host.old) (H.disk host.new) ws (Some DbOnline)
-            (plain result) (Fits self.new.database) }
-        ensures in_reach { H.tells → self.old.database ≡ None → IsOpenReply result
-            → EachLeft (H.disk host.new) IsInReach }
-        ensures past_end { H.tells → result ≡ Reply.Refused Refusal.NumberEnd
-            → EachLeft (H.disk host.new) (λ image. past_end_in DbOnline image ≡ true) }
-        ensures later { H.faults host.old ≤ H.faults host.new }
-        ensures cause { result ≡ Reply.Refused Refusal.DeviceFailed
-            → Rose (H.faults host.old) (H.faults host.new) }
-        ensures damage { H.tells → RepliesDamage (H.disk host.old).seen result }
-        ensures refused { RefusalLeaves self.old.database self.new.database result }
+            (plain result) (FitsWorlds self.new.database) }
         ensures say_faults { H.say_faults host.new ≡ H.say_faults host.old }
     {
         match &mut self.database {
@@ -339,21 +303,12 @@ impl Kernel {
     // Opens the database.
     fn restart<H: Host>(&mut self, host: &mut H, access: Access) -> Reply
         requires off { self.old.database ≡ None }
-        ensures ready { Ready self.new.database }
-        ensures meets { H.tells → Meets self.new.database (H.disk host.new).seen }
-        ensures keeps { H.tells → Keeps (H.disk host.old) (H.disk host.new) }
+        ensures takes { TakesLine H.tells (H.disk host.old) (H.disk host.new) (H.faults host.old)
+            (H.faults host.new) self.old.database self.new.database (opens access) result }
         ensures does { H.tells → (ws : List World) → Fits None ws
-            → Stand no_pages Stands (H.disk host.old) ws
+            → LeavesOnly no_pages Stands (H.disk host.old) ws
             → Completes no_pages Stands (H.disk host.old) (H.disk host.new) ws (Some (opens access))
-            (plain result) (Fits self.new.database) }
-        ensures in_reach { H.tells → IsOpenReply result → EachLeft (H.disk host.new) IsInReach }
-        ensures past_end { H.tells → result ≡ Reply.Refused Refusal.NumberEnd
-            → EachLeft (H.disk host.new) (λ image. past_end_in (opens access) image ≡ true) }
-        ensures later { H.faults host.old ≤ H.faults host.new }
-        ensures cause { result ≡ Reply.Refused Refusal.DeviceFailed
-            → Rose (H.faults host.old) (H.faults host.new) }
-        ensures damage { H.tells → RepliesDamage (H.disk host.old).seen result }
-        ensures refused { RefusalLeaves self.old.database self.new.database result }
+            (plain result) (FitsWorlds self.new.database) }
         ensures say_faults { H.say_faults host.new ≡ H.say_faults host.old }
     {
         match open_database(self.alloc, host, access) {
@@ -368,8 +323,8 @@ impl Kernel {
 
     fn go_offline(&mut self) -> Reply
         ensures off { self.new.database ≡ None }
-        ensures moves { (ws : List World) → Fits self.old.database ws
-            → Moves ws (Some DbOffline) (plain result) (Fits self.new.database) }
+        ensures moves { (ws : List World) → FitsWorlds self.old.database ws
+            → Moves ws (Some DbOffline) (plain result) (FitsWorlds self.new.database) }
         ensures inside { IsInside result }
         ensures refused { RefusalLeaves self.old.database self.new.database result }
     {

@@ -6,9 +6,7 @@ pub mod kernel;
 pub mod opening;
 mod records;
 mod redo;
-mod replies;
 pub mod rows;
-mod scan;
 mod starting;
 
 pub use creation::{CreateFault, create};

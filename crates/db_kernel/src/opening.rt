@@ -3,14 +3,13 @@ ghost use Rattle.std.specs.Prelude.{◌≡◌, ℕ, ◌+◌, ◌≤◌, ◌<◌,
 ghost use Rattle.mdb_model.specs.Causes.{Rose};
 ghost use Rattle.mdb_model.specs.Worlds.{World};
 ghost use Rattle.mdb_host.specs.Disk.{Disk, Goes, Agree};
-ghost use Rattle.mdb_bytes.specs.Rings.{HasRing};
-ghost use Rattle.redo_ring.specs.Opening.{ring_size};
+ghost use Rattle.mdb_bytes.specs.Rings.{HasRing, ring_size};
 ghost use Rattle.db_kernel.specs.Access.{opens};
 ghost use Rattle.db_kernel.specs.Damages.{RefusesInFront, Refuses, EachLeft, IsInReach, past_end_in};
 ghost use Rattle.creation.specs.Devices.{device_count, SyncedUpTo};
 ghost use Rattle.db_kernel.specs.Kept.{IsWholeLog, OpenedIs, as_refusal};
-ghost use Rattle.db_kernel.specs.Reading.{IsFound, IsLowStart};
-ghost use Rattle.creation.specs.Standing.{Stands};
+ghost use Rattle.db_kernel.specs.Reading.{FindsRecords, IsLowStart};
+ghost use Rattle.standing.specs.Standing.{Stands};
 
 use crate::database::{Access, Database, most_bytes};
 use crate::records::{check_volumes, log_start, read_log_info, read_restart_record};
@@ -46,7 +45,7 @@ fn refusal_of(fault: OpenFault) -> Refusal
 
 // Reads the records of devices that are synced.
 fn read_records<H: Host>(host: &mut H) -> Result<Found, Refusal>
-    ensures found { IfOk result (λ found. H.tells → IsFound found (H.disk host.old).seen) }
+    ensures found { IfOk result (λ found. H.tells → FindsRecords found (H.disk host.old).seen) }
     ensures start { IfOk result (λ found. IsLowStart found.start) }
     ensures ring { IfOk result (λ found. H.tells
         → HasRing (ring_size found.start.pages) (H.disk host.new).seen) }
@@ -67,7 +66,7 @@ fn read_records<H: Host>(host: &mut H) -> Result<Found, Refusal>
 
 // Syncs every device, so that what is read from now on stays, and reads the records.
 fn find_records<H: Host>(host: &mut H) -> Result<Found, Refusal>
-    ensures found { IfOk result (λ found. H.tells → IsFound found (H.disk host.old).seen) }
+    ensures found { IfOk result (λ found. H.tells → FindsRecords found (H.disk host.old).seen) }
     ensures start { IfOk result (λ found. IsLowStart found.start) }
     ensures ring { IfOk result (λ found. H.tells
         → HasRing (ring_size found.start.pages) (H.disk host.new).seen) }
@@ -113,22 +112,17 @@ pub fn open_database<H: Host>(
     ensures say_faults { H.say_faults host.new ≡ H.say_faults host.old }
 {
     let found = find_records(host)?;
-    let ring = match Ring::open(alloc, host, &found.start) {
-        Ok(ring) => ring,
-        Err(fault) => return Err(refusal_of(fault)),
-    };
+    let ring = Ring::open(alloc, host, &found.start).map_err(refusal_of)?;
     let Ok(mut group) = GroupBuf::new(alloc) else {
         return Err(Refusal::MemoryWanting);
     };
-    match redo(alloc, host, &ring, &found.start, &mut group) {
-        Ok(rows) => Ok(Database {
-            access,
-            blocks: found.blocks,
-            rows,
-            transactions: Transactions::new(alloc, most_bytes(ring.size)),
-            ring,
-            group,
-        }),
-        Err(fault) => Err(refusal_of(fault)),
-    }
+    let rows = redo(alloc, host, &ring, &found.start, &mut group).map_err(refusal_of)?;
+    Ok(Database {
+        access,
+        blocks: found.blocks,
+        rows,
+        transactions: Transactions::new(alloc, most_bytes(ring.size)),
+        ring,
+        group,
+    })
 }

@@ -4,11 +4,11 @@ ghost use Rattle.mdb_model.specs.Causes.{Rose};
 ghost use Rattle.mdb_model.specs.declared.fault.Device.TheVariants.{Data, Log};
 ghost use Rattle.mdb_model.specs.Images.{Image, size_of};
 ghost use Rattle.mdb_host.specs.Disk.{Disk, Goes, Agree};
-ghost use Rattle.mdb_bytes.specs.Parts.{Keeps};
+ghost use Rattle.mdb_bytes.specs.Parts.{KeepsLimits};
 ghost use Rattle.mdb_bytes.specs.SlotRecords.{restart_format, log_info_format};
-ghost use Rattle.db_kernel.specs.Damages.{whole_damage, HasRestart, HasLogInfo, RefusesInFront, start_of, restart_numbers, info_numbers, is_past, has_past_snapshot, is_past_end};
+ghost use Rattle.db_kernel.specs.Damages.{whole_damage, HasRestart, HasLogInfo, RefusesInFront, log_start_of, restart_numbers, info_numbers, is_past, has_past_snapshot, is_past_end};
 ghost use Rattle.db_kernel.specs.Reading.{VolumeFits, IsAreaSize, IsLowStart};
-ghost use Rattle.creation.specs.Standing.{data_slots, log_slots};
+ghost use Rattle.standing.specs.Standing.{data_slots, log_slots};
 
 use gate_slots::{SlotBody, SlotFault, SlotPlace, Slots};
 use mdb_bytes::{AreaState, LogInfo, RestartRecord, SnapshotEntry};
@@ -44,7 +44,7 @@ pub(crate) fn damaged(device: Device, rule: Rule) -> Refusal
 /// The restart record in force.
 pub(crate) fn read_restart_record<H: Host>(host: &mut H) -> Result<RestartRecord, Refusal>
     ensures force { IfOk result (λ restart. H.tells → HasRestart (H.disk host.old).seen restart) }
-    ensures keeps { IfOk result (λ restart. Keeps restart_format restart) }
+    ensures keeps { IfOk result (λ restart. KeepsLimits restart_format restart) }
     ensures refuses { H.tells → IfErr result (RefusesInFront (H.disk host.old).seen) }
     ensures calm { H.tells → Goes (H.disk host.old) (H.disk host.new) Agree }
     ensures seen { H.tells → Agree (H.disk host.old).seen (H.disk host.new).seen }
@@ -99,7 +99,7 @@ fn check_volume<H: Host>(
 
 /// Tests the data volumes against the record, by number; the blocks of all of them.
 pub(crate) fn check_volumes<H: Host>(host: &H, restart: &RestartRecord) -> Result<u32, Refusal>
-    requires keeps { Keeps restart_format restart.now }
+    requires keeps { KeepsLimits restart_format restart.now }
     ensures blocks { IfOk result (λ blocks. IsAreaSize restart.now blocks) }
     ensures fits { IfOk result (λ blocks. H.tells → (volume : ℕ)
         → volume < length restart.now.volumes.items
@@ -121,7 +121,7 @@ pub(crate) fn check_volumes<H: Host>(host: &H, restart: &RestartRecord) -> Resul
 /// The log info in force.
 pub(crate) fn read_log_info<H: Host>(host: &mut H) -> Result<LogInfo, Refusal>
     ensures force { IfOk result (λ info. H.tells → HasLogInfo (H.disk host.old).seen info) }
-    ensures keeps { IfOk result (λ info. Keeps log_info_format info) }
+    ensures keeps { IfOk result (λ info. KeepsLimits log_info_format info) }
     ensures pages { IfOk result (λ info. (4 ≤ info.pages) × (info.pages ≤ 65536)) }
     ensures size { IfOk result (λ info. H.tells
         → size_of ((H.disk host.old).seen Log) ≡ Some (info.pages * 8192)) }
@@ -209,7 +209,7 @@ fn records_are_past(restart: &RestartRecord, info: &LogInfo) -> bool
 
 // Where the log of these records begins.
 fn start_by(restart: &RestartRecord, info: &LogInfo) -> LogStart
-    ensures { result ≡ start_of restart.now info.now }
+    ensures { result ≡ log_start_of restart.now info.now }
 {
     let is_earlier = info.name.generation < restart.name.generation;
     LogStart {
@@ -234,7 +234,7 @@ fn start_by(restart: &RestartRecord, info: &LogInfo) -> LogStart
 /// past the end.
 pub(crate) fn log_start(restart: &RestartRecord, info: &LogInfo) -> Result<LogStart, Refusal>
     requires pages { (4 ≤ info.now.pages) × (info.now.pages ≤ 65536) }
-    ensures start { IfOk result (λ start. start ≡ start_of restart.now info.now) }
+    ensures start { IfOk result (λ start. start ≡ log_start_of restart.now info.now) }
     ensures low { IfOk result IsLowStart }
     ensures normal { IfOk result (λ start. (restart.now.state ≡ AreaState.Normal)
         × (is_past_end restart.now info.now ≡ false)) }

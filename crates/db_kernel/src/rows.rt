@@ -9,7 +9,8 @@ ghost use Rattle.mdb_model.specs.Tables.{place_cmp, with_change, with_changes};
 ghost use Rattle.mdb_bytes.specs.Fields.{rises};
 ghost use Rattle.mdb_bytes.specs.Held.{next_row, IsNextRow};
 ghost use Rattle.sorted_places.specs.Search.{IsAt, IsGap};
-ghost use Rattle.db_kernel.specs.Rows.{row_place, row_entry, row_parts, rows_alone, IsBehind};
+ghost use Rattle.session_rows.specs.Scan.{IsBehind};
+ghost use Rattle.db_kernel.specs.Rows.{row_place, row_entry, row_parts, rows_alone};
 
 use mdb_bytes::{Held, Rows};
 use mdb_model::bytes::{Key, KeyBuf, Value, ValueBuf};

@@ -4,9 +4,9 @@ ghost use Rattle.mdb_model.specs.Headline.{CanStart};
 ghost use Rattle.mdb_model.specs.Images.{Image};
 ghost use Rattle.mdb_model.specs.Worlds.{World};
 ghost use Rattle.mdb_host.specs.Disk.{Disk};
-ghost use Rattle.creation.specs.Standing.{Stands};
+ghost use Rattle.standing.specs.Standing.{Stands};
 ghost use Rattle.db_kernel.specs.Starting.{own_age};
-ghost use Rattle.db_kernel.specs.Working.{no_pages};
+ghost use Rattle.session_rows.specs.Serving.{no_pages};
 
 use mdb_host::Host;
 

@@ -2,8 +2,8 @@
 use Rattle.std.proofs.Common.{◌≡◌, ◌≢◌, ℕ, ◌+◌, ◌-◌, ◌*◌, ◌<◌, List, [], ◌∷◌, ◌++◌, Bool, true, false, not, ◌&&◌, ◌==◌, if◌then◌else◌, IsTrue, Option, Some, None, length, fold, nat_le, refl, sym, ap, ◌∙◌, subst, inl, inr, arith, append_assoc}
 use Rattle.std.specs.List.{list_all}
 use Rattle.std.proofs.lemmas.Bool.{and_parts, and_right, not-true, cases_Bool, eqb-true, ne_eqb, leb-true, not_from_false}
-use Rattle.mdb_model.specs.Script.{Part, Word, Number, Bytes, Spells, IsSpaced, is_blank_byte, is_digit, is_plain, is_within, past_blanks, hex_value, hex_bytes, join_digits, number_of}
-use Rattle.dbm_script.specs.Cutting.{token, after_token, first_text, rest_after, Fits}
+use Rattle.mdb_model.specs.Script.{Part, Word, Number, Bytes, SpellsPart, IsSpaced, is_blank_byte, is_digit, is_plain, is_within, past_blanks, hex_value, hex_bytes, join_digits, number_of}
+use Rattle.dbm_script.specs.Cutting.{token, after_token, first_text, rest_after, FitsLine}
 
 -- it is empty, or begins with a blank
 abbrev pub is_apart : List ℕ → Bool
@@ -44,7 +44,7 @@ token-letter b bytes h =
     let p = and_parts (not (is_blank_byte b)) (not (b == 39)) h in
     rw (not-true (is_blank_byte b) p.0, not-true (b == 39) p.1) refl
 
--- and what is behind the token is behind the letter too
+-- and what is after the token is after the letter too
 after-letter : (b : ℕ) (bytes : List ℕ) → IsTrue (is_letter b) → after_token false (b ∷ bytes) ≡ after_token false bytes
 after-letter b bytes h =
     let p = and_parts (not (is_blank_byte b)) (not (b == 39)) h in
@@ -54,7 +54,7 @@ after-letter b bytes h =
 token-inside : (b : ℕ) (bytes : List ℕ) → (b == 39) ≡ false → token true (b ∷ bytes) ≡ b ∷ token true bytes
 token-inside b bytes h = rw (and_right (is_blank_byte b) false refl, h) refl
 
--- and what is behind the token is behind that byte too
+-- and what is after the token is after that byte too
 after-inside : (b : ℕ) (bytes : List ℕ) → (b == 39) ≡ false → after_token true (b ∷ bytes) ≡ after_token true bytes
 after-inside b bytes h = rw (and_right (is_blank_byte b) false refl, h) refl
 
@@ -65,7 +65,7 @@ token-apart : (more : List ℕ) → IsTrue (is_apart more) → token false more 
 token-apart [] a = refl
 token-apart (b ∷ more) a = rw a refl
 
--- so all of it is behind the token
+-- so all of it is after the token
 after-apart : (more : List ℕ) → IsTrue (is_apart more) → after_token false more ≡ more
 after-apart [] a = refl
 after-apart (b ∷ more) a = rw a refl
@@ -77,7 +77,7 @@ token-run (b ∷ text) more l a =
     let p = and_parts (is_letter b) (list_all is_letter text) l in
     token-letter b (text ++ more) p.0 ∙ ap (λ (t : List ℕ). b ∷ t) (token-run text more p.1 a)
 
--- and the rest is behind it
+-- and the rest is after it
 after-run : (text more : List ℕ) → IsTrue (list_all is_letter text) → IsTrue (is_apart more) → after_token false (text ++ more) ≡ more
 after-run [] more l a = after-apart more a
 after-run (b ∷ text) more l a =
@@ -95,7 +95,7 @@ token-quoted (b ∷ bytes) more l a =
     let p = and_parts (is_inner b) (list_all is_inner bytes) l in
     token-inside b ((bytes ++ 39 ∷ []) ++ more) (not-true (b == 39) p.0) ∙ ap (λ (t : List ℕ). b ∷ t) (token-quoted bytes more p.1 a)
 
--- and the rest is behind it
+-- and the rest is after it
 after-quoted : (bytes more : List ℕ) → IsTrue (list_all is_inner bytes) → IsTrue (is_apart more) → after_token true ((bytes ++ 39 ∷ []) ++ more) ≡ more
 after-quoted [] more l a = after-apart more a
 after-quoted (b ∷ bytes) more l a =
@@ -130,7 +130,7 @@ letters-digits (b ∷ text) d =
     let p = and_parts (is_digit b) (list_all is_digit text) d in
     rw (letter-digit b p.0, letters-digits text p.1) refl
 
--- joined digits came from two digits and the bytes behind them
+-- joined digits came from two digits and the bytes after them
 pub hex_joined : (a b : Option ℕ) (c : Option (List ℕ)) (d : List ℕ) → join_digits a b c ≡ Some d
     → (x : ℕ) × (y : ℕ) × (z : List ℕ) × (a ≡ Some x) × (b ≡ Some y) × (c ≡ Some z) × (d ≡ (16 * x + y) ∷ z)
 hex_joined (Some x) (Some y) (Some z) d e = (x, y, z, refl, refl, refl, cc)
@@ -196,7 +196,7 @@ IsWhole-hex digits i = record {
 }
 
 -- what spells a part is cut off whole
-pub IsWhole-spelled : (part : Part) (text : List ℕ) → IsTrue (is_proper part) → Spells part text → IsWhole text
+pub IsWhole-spelled : (part : Part) (text : List ℕ) → IsTrue (is_proper part) → SpellsPart part text → IsWhole text
 IsWhole-spelled (Word word) text p s = subst (λ (t : List ℕ). IsWhole t) (sym s) (IsWhole-word word p)
 IsWhole-spelled (Number n) text p s = IsWhole-number text n s
 IsWhole-spelled (Bytes bytes) text p (inl s) = subst (λ (t : List ℕ). IsWhole t) (sym s.1) (IsWhole-quoted bytes (inner-plain bytes s.0))
@@ -260,7 +260,7 @@ past_begun : (text more : List ℕ) → IsTrue (is_begun text) → past_blanks (
 past_begun [] more b = absurd (cc)
 past_begun (x ∷ text) more b = rw (not-true (is_blank_byte x) b) refl
 
--- a token and what is behind it are all
+-- a token and what is after it are all
 cut_whole : (quoted : Bool) (rest : List ℕ) → token quoted rest ++ after_token quoted rest ≡ rest
 cut_whole quoted [] = refl
 cut_whole quoted (b ∷ rest) = elim (cases_Bool (is_blank_byte b && not quoted)) [
@@ -287,7 +287,7 @@ spaced_apart (part ∷ parts) rest (gap, text, more, e, l, b, s, f) =
       led (x ∷ gap) text more l b = (and_parts (is_blank_byte x) (list_all is_blank_byte gap) b).0
 
 -- the first part that stands in a line is what the cut gives
-cut_first : (part : Part) (gap text more : List ℕ) → IsTrue (is_proper part) → IsTrue (list_all is_blank_byte gap) → Spells part text → IsTrue (is_apart more)
+cut_first : (part : Part) (gap text more : List ℕ) → IsTrue (is_proper part) → IsTrue (list_all is_blank_byte gap) → SpellsPart part text → IsTrue (is_apart more)
     → (first_text (gap ++ text ++ more) ≡ text) × (rest_after (gap ++ text ++ more) ≡ more)
 unfolding first_text rest_after
 cut_first part gap text more p b s a =
@@ -297,13 +297,13 @@ cut_first part gap text more p b s a =
     (ap (token false) e ∙ w.text_is more a, ap (after_token false) e ∙ w.rest_is more a)
 
 -- parts that are spaced fit what is cut
-pub Fits-spaced : (parts : List Part) (rest : List ℕ) → IsTrue (list_all is_proper parts) → IsSpaced parts rest → Fits parts rest
-Fits-spaced [] rest p s = past_none rest s
-Fits-spaced (part ∷ parts) rest p (gap, text, more, e, l, b, s, f) =
+pub FitsLine-spaced : (parts : List Part) (rest : List ℕ) → IsTrue (list_all is_proper parts) → IsSpaced parts rest → FitsLine parts rest
+FitsLine-spaced [] rest p s = past_none rest s
+FitsLine-spaced (part ∷ parts) rest p (gap, text, more, e, l, b, s, f) =
     let q = and_parts (is_proper part) (list_all is_proper parts) p in
     let c = cut_first part gap text more q.0 b s (spaced_apart parts more f) in (
-      subst (λ (t : List ℕ). Spells part t) (sym (ap first_text e ∙ c.0)) s,
-      subst (λ (t : List ℕ). Fits parts t) (sym (ap rest_after e ∙ c.1)) (Fits-spaced parts more q.1 f),
+      subst (λ (t : List ℕ). SpellsPart part t) (sym (ap first_text e ∙ c.0)) s,
+      subst (λ (t : List ℕ). FitsLine parts t) (sym (ap rest_after e ∙ c.1)) (FitsLine-spaced parts more q.1 f),
     )
 
 -- a text that is begun is not empty
@@ -330,7 +330,7 @@ unfolding rest_after
 rest_apart rest = after_apart false (past_blanks rest)
 
 -- parts that fit what is cut are spaced
-pub IsSpaced-fits : (parts : List Part) (rest : List ℕ) → IsTrue (list_all is_proper parts) → IsTrue (is_apart rest) → Fits parts rest → IsSpaced parts rest
+pub IsSpaced-fits : (parts : List Part) (rest : List ℕ) → IsTrue (list_all is_proper parts) → IsTrue (is_apart rest) → FitsLine parts rest → IsSpaced parts rest
 IsSpaced-fits [] rest p a f = blanks_none rest f
 IsSpaced-fits (part ∷ parts) rest p a (s, f) =
     let q = and_parts (is_proper part) (list_all is_proper parts) p in
@@ -346,13 +346,13 @@ IsSpaced-fits (part ∷ parts) rest p a (s, f) =
     )
 
 -- with a blank in front, as a line is read
-pub Fits-line : (parts : List Part) (line : List ℕ) → IsTrue (list_all is_proper parts) → IsSpaced parts (32 ∷ line) → Fits parts line
+pub FitsLine-line : (parts : List Part) (line : List ℕ) → IsTrue (list_all is_proper parts) → IsSpaced parts (32 ∷ line) → FitsLine parts line
 unfolding first_text rest_after
-Fits-line [] line p s = past_none line s
-Fits-line (part ∷ parts) line p s = Fits-spaced (part ∷ parts) (32 ∷ line) p s
+FitsLine-line [] line p s = past_none line s
+FitsLine-line (part ∷ parts) line p s = FitsLine-spaced (part ∷ parts) (32 ∷ line) p s
 
 -- and back
-pub IsSpaced-line : (parts : List Part) (line : List ℕ) → IsTrue (list_all is_proper parts) → Fits parts line → IsSpaced parts (32 ∷ line)
+pub IsSpaced-line : (parts : List Part) (line : List ℕ) → IsTrue (list_all is_proper parts) → FitsLine parts line → IsSpaced parts (32 ∷ line)
 unfolding first_text rest_after
 IsSpaced-line [] line p f = blanks_none line f
 IsSpaced-line (part ∷ parts) line p f = IsSpaced-fits (part ∷ parts) (32 ∷ line) p refl f

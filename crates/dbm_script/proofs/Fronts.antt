@@ -8,7 +8,7 @@ use Rattle.mdb_model.specs.declared.script.BackupKind.{BackupKind}
 use Rattle.mdb_model.specs.declared.script.BackupKind.TheVariants.{OfPages, OfLog}
 use Rattle.mdb_model.specs.declared.script.Command.{Command}
 use Rattle.mdb_model.specs.declared.script.Command.TheVariants.{TaskBackup, BackupStart, Recover}
-use Rattle.mdb_model.specs.Script.{Part, Word, Number, Bytes, Spells, parts_of, page_kind_part, backup_kind_part, log_part, until_part, past_blanks, is_digit, number_of, same_word}
+use Rattle.mdb_model.specs.Script.{Part, Word, Number, Bytes, SpellsPart, parts_of, page_kind_part, backup_kind_part, log_part, until_part, past_blanks, is_digit, number_of, same_word}
 use Rattle.dbm_script.specs.declared.fault.LineFault.{LineFault}
 use Rattle.dbm_script.specs.declared.fault.LineFault.TheVariants.{Syntax, Memory}
 use Rattle.dbm_script.specs.Cutting.{first_text, rest_after, IsSame, Follows}
@@ -97,18 +97,18 @@ word_digits (b ∷ word) w d =
     both_ways (is_digit b) (not-true (is_digit b) p.0) q.0
 
 -- words and numbers are spelled by letters
-spelled_letters : (part : Part) (text : List ℕ) → IsTrue (is_lettered part) → Spells part text → IsTrue (list_all is_letter text)
+spelled_letters : (part : Part) (text : List ℕ) → IsTrue (is_lettered part) → SpellsPart part text → IsTrue (list_all is_letter text)
 spelled_letters (Word word) text l s = subst (λ (t : List ℕ). IsTrue (list_all is_letter t)) (sym s) (word_letters word l)
 spelled_letters (Number n) text l s = letters-digits text (number-digits text n s)
 spelled_letters (Bytes bytes) text l s = absurd (false≢true l)
 
 -- byte strings are not
-bytes_letters : (bytes text : List ℕ) → Spells (Bytes bytes) text → IsTrue (list_all is_letter text) → ⊥
+bytes_letters : (bytes text : List ℕ) → SpellsPart (Bytes bytes) text → IsTrue (list_all is_letter text) → ⊥
 bytes_letters bytes text (inl s) l = false≢true (subst (λ (t : List ℕ). IsTrue (list_all is_letter t)) s.1 l)
 bytes_letters bytes text (inr s) l = false≢true (subst (λ (t : List ℕ). IsTrue (list_all is_letter t)) s.2 l)
 
 -- the text of a word or a number spells no other part
-same_part : (part other : Part) (text : List ℕ) → IsTrue (is_lettered part) → IsTrue (is_proper other) → Spells part text → Spells other text → IsSame part other
+same_part : (part other : Part) (text : List ℕ) → IsTrue (is_lettered part) → IsTrue (is_proper other) → SpellsPart part text → SpellsPart other text → IsSame part other
 same_part part (Bytes bytes) text l p s t = absurd (bytes_letters bytes text t (spelled_letters part text l s))
 same_part (Word word) (Word other) text l p s t = subst (λ (u : List ℕ). IsTrue (same_word word u)) (sym s ∙ t) (same-refl word)
 same_part (Word word) (Number n) text l p s t = absurd (word_digits word l (subst (λ (u : List ℕ). IsTrue (list_all is_digit u)) s (number-digits text n t)))
@@ -118,7 +118,7 @@ same_part (Bytes bytes) (Word word) text l p s t = absurd (false≢true l)
 same_part (Bytes bytes) (Number m) text l p s t = absurd (false≢true l)
 
 -- a text spells what is the same
-spelled_same : (part other : Part) (text : List ℕ) → IsTrue (is_lettered part) → Spells part text → IsSame part other → Spells other text
+spelled_same : (part other : Part) (text : List ℕ) → IsTrue (is_lettered part) → SpellsPart part text → IsSame part other → SpellsPart other text
 spelled_same (Word word) (Word other) text l s e = s ∙ same-is word other e
 spelled_same (Number n) (Number m) text l s e = s ∙ ap (λ (k : ℕ). Some k) e
 spelled_same (Word word) (Number other) text l s e = absurd e
@@ -156,7 +156,7 @@ parts_proper command = refl
 -- One more part is read
 
 -- a part that was read is one more of the front
-further : (front parts : List Part) (part : Part) (rest : List ℕ) → IsTrue (list_all is_proper parts) → IsTrue (is_lettered part) → Spells part (first_text rest)
+further : (front parts : List Part) (part : Part) (rest : List ℕ) → IsTrue (list_all is_proper parts) → IsTrue (is_lettered part) → SpellsPart part (first_text rest)
     → Follows front parts rest → Follows (front ++ part ∷ []) parts (rest_after rest)
 further [] [] part rest p l s f = absurd (text_some rest (IsWhole-spelled part (first_text rest) (lettered_proper part l) s).begun f)
 further [] (other ∷ parts) part rest p l s (t, f) =
@@ -166,7 +166,7 @@ further (first ∷ front) (other ∷ parts) part rest p l s (e, f) =
     (e, further front parts part rest (and_parts (is_proper other) (list_all is_proper parts) p).1 l s f)
 
 -- and back
-pub before : (front parts : List Part) (part : Part) (rest : List ℕ) → IsTrue (is_lettered part) → Spells part (first_text rest)
+pub before : (front parts : List Part) (part : Part) (rest : List ℕ) → IsTrue (is_lettered part) → SpellsPart part (first_text rest)
     → Follows (front ++ part ∷ []) parts (rest_after rest) → Follows front parts rest
 before [] [] part rest l s f = absurd f
 before [] (other ∷ parts) part rest l s (e, f) = (spelled_same part other (first_text rest) l s e, f)
@@ -174,7 +174,7 @@ before (first ∷ front) [] part rest l s f = absurd f
 before (first ∷ front) (other ∷ parts) part rest l s (e, f) = (e, before front parts part rest l s f)
 
 -- what is read past a part is read before it
-pub step : (front : List Part) (part : Part) (rest : List ℕ) (result : Result Command LineFault) → IsTrue (is_lettered part) → Spells part (first_text rest)
+pub step : (front : List Part) (part : Part) (rest : List ℕ) (result : Result Command LineFault) → IsTrue (is_lettered part) → SpellsPart part (first_text rest)
     → IsRest (front ++ part ∷ []) (rest_after rest) result → IsRest front rest result
 step front part rest (Ok command) l s r = (r.0, before front (parts_of command) part rest l s r.1)
 step front part rest (Err Syntax) l s r = λ command i f. r command i (further front (parts_of command) part rest (parts_proper command) l s f)
@@ -218,7 +218,7 @@ lettered_backup (OfPages kind) = lettered_kind kind
 lettered_backup OfLog = refl
 
 -- the same for the kind of a backup
-pub step_backup : (front : List Part) (kind : BackupKind) (rest after : List ℕ) (result : Result Command LineFault) → Spells (backup_kind_part kind) (first_text rest)
+pub step_backup : (front : List Part) (kind : BackupKind) (rest after : List ℕ) (result : Result Command LineFault) → SpellsPart (backup_kind_part kind) (first_text rest)
     → after ≡ rest_after rest → IsRest (front ++ backup_kind_part kind ∷ []) after result → IsRest front rest result
 step_backup front kind rest after result s a r =
     step front (backup_kind_part kind) rest result (lettered_backup kind) s (subst (λ (x : List ℕ). IsRest (front ++ backup_kind_part kind ∷ []) x result) a r)

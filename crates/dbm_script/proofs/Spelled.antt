@@ -4,7 +4,7 @@ use Rattle.std.specs.List.{list_all}
 use Rattle.std.proofs.lemmas.Bool.{and_parts}
 use Rattle.std.proofs.lemmas.List.{append_cancel_left, append_cancel_right, take-append-drop, drop_more}
 use Rattle.std.proofs.lemmas.List.Folds.{list_all-append}
-use Rattle.mdb_model.specs.Script.{Bytes, Spells, is_digit, is_plain, is_within, number_of, hex_value, hex_bytes, join_digits}
+use Rattle.mdb_model.specs.Script.{Bytes, SpellsPart, is_digit, is_plain, is_within, number_of, hex_value, hex_bytes, join_digits}
 use Rattle.dbm_script.proofs.Cuts.{if_some, number-digits, hex_joined}
 
 -- a number with one more digit
@@ -83,7 +83,7 @@ front_byte : (xs ys : List ℕ) (x y : ℕ) → x ∷ xs ≡ y ∷ ys → x ≡ 
 front_byte xs ys x y e = cc
 
 -- the text between quotes is the only one that it spells
-pub quoted-spells : (text inner bytes : List ℕ) → text ≡ 39 ∷ inner ++ 39 ∷ [] → Spells (Bytes bytes) text → IsTrue (list_all is_plain inner) × (bytes ≡ inner)
+pub quoted-spells : (text inner bytes : List ℕ) → text ≡ 39 ∷ inner ++ 39 ∷ [] → SpellsPart (Bytes bytes) text → IsTrue (list_all is_plain inner) × (bytes ≡ inner)
 quoted-spells text inner bytes q (inl s) =
     let same : 39 ∷ bytes ++ 39 ∷ [] ≡ 39 ∷ inner ++ 39 ∷ [] = sym s.1 ∙ q in
     let tails : bytes ++ 39 ∷ [] ≡ inner ++ 39 ∷ [] = cc in
@@ -94,7 +94,7 @@ quoted-spells text inner bytes q (inr s) =
     absurd (omega (arith, front_byte (39 ∷ s.0 ++ 39 ∷ []) (inner ++ 39 ∷ []) 120 39 same))
 
 -- the bytes of the digits are the only ones that they spell
-pub hex-spells : (text digits bytes : List ℕ) → text ≡ 120 ∷ 39 ∷ digits ++ 39 ∷ [] → Spells (Bytes bytes) text → hex_bytes digits ≡ Some bytes
+pub hex-spells : (text digits bytes : List ℕ) → text ≡ 120 ∷ 39 ∷ digits ++ 39 ∷ [] → SpellsPart (Bytes bytes) text → hex_bytes digits ≡ Some bytes
 hex-spells text digits bytes q (inl s) =
     let same : 39 ∷ bytes ++ 39 ∷ [] ≡ 120 ∷ 39 ∷ digits ++ 39 ∷ [] = sym s.1 ∙ q in
     absurd (omega (arith, front_byte (bytes ++ 39 ∷ []) (39 ∷ digits ++ 39 ∷ []) 39 120 same))
@@ -105,11 +105,11 @@ hex-spells text digits bytes q (inr s) =
     ap hex_bytes (sym e) ∙ s.1
 
 -- a text in neither form spells no bytes
-pub none-spells : (text bytes : List ℕ) → ((inner : List ℕ) → text ≡ 39 ∷ inner ++ 39 ∷ [] → ⊥) → ((digits : List ℕ) → text ≡ 120 ∷ 39 ∷ digits ++ 39 ∷ [] → ⊥) → Spells (Bytes bytes) text → ⊥
+pub none-spells : (text bytes : List ℕ) → ((inner : List ℕ) → text ≡ 39 ∷ inner ++ 39 ∷ [] → ⊥) → ((digits : List ℕ) → text ≡ 120 ∷ 39 ∷ digits ++ 39 ∷ [] → ⊥) → SpellsPart (Bytes bytes) text → ⊥
 none-spells text bytes q h (inl s) = q bytes s.1
 none-spells text bytes q h (inr s) = h s.0 s.2
 
--- what stands behind a front and before an end
+-- what stands after a front and before an end
 pub between_cases : (text front rest end : List ℕ) (r : Option (Bor (List ℕ))) → text ≡ front ++ rest
     → MatchOption r ((inner : List ℕ) → rest ≢ inner ++ end) (λ x. rest ≡ x.now ++ end)
     → MatchOption r ((inner : List ℕ) → text ≢ front ++ (inner ++ end)) (λ x. text ≡ front ++ (x.now ++ end))

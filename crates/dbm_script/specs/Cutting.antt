@@ -1,9 +1,9 @@
 -- A line cut into parts, in one way.
 --     first_text, rest_after      the first part as it is spelled, and what follows it
---     Fits      parts stand in a line, one after another
+--     FitsLine      parts stand in a line, one after another
 --     Follows      parts of which the first ones were read already
 use Rattle.std.specs.Prelude.{◌≡◌, ℕ, List, [], ◌∷◌, Bool, false, not, Some, ◌&&◌, ◌==◌, if◌then◌else◌, IsTrue}
-use Rattle.mdb_model.specs.Script.{Part, Word, Number, Bytes, Spells, is_blank_byte, past_blanks, number_of, same_word}
+use Rattle.mdb_model.specs.Script.{Part, Word, Number, Bytes, SpellsPart, is_blank_byte, past_blanks, number_of, same_word}
 
 -- whether quotes are open past this byte
 abbrev pub quoted_past : ℕ → Bool → Bool
@@ -30,9 +30,9 @@ unfoldable pub rest_after : List ℕ → List ℕ
 rest_after rest = after_token false (past_blanks rest)
 
 -- the parts stand in the line in this order, and nothing after them
-abbrev pub Fits : List Part → List ℕ → Type 0
-Fits [] rest = past_blanks rest ≡ []
-Fits (part ∷ parts) rest = Spells part (first_text rest) × Fits parts (rest_after rest)
+abbrev pub FitsLine : List Part → List ℕ → Type 0
+FitsLine [] rest = past_blanks rest ≡ []
+FitsLine (part ∷ parts) rest = SpellsPart part (first_text rest) × FitsLine parts (rest_after rest)
 
 -- the same part
 abbrev pub IsSame : Part → Part → Type 0
@@ -43,11 +43,11 @@ IsSame _ _ = ⊥
 
 -- the parts begin with those of the front, and the others stand in what is left of the line
 abbrev pub Follows : List Part → List Part → List ℕ → Type 0
-Follows [] parts rest = Fits parts rest
+Follows [] parts rest = FitsLine parts rest
 Follows (first ∷ front) [] rest = ⊥
 Follows (first ∷ front) (part ∷ parts) rest = IsSame first part × Follows front parts rest
 
--- numbers stand one after another, and what is left is behind them
+-- numbers stand one after another, and what is left is after them
 abbrev pub AreNumbers : List ℕ → List ℕ → List ℕ → Type 0
 AreNumbers [] rest left = left ≡ rest
 AreNumbers (n ∷ numbers) rest left =

@@ -29,8 +29,8 @@ IsRest front rest (Err Memory) =
     × Follows front (parts_of command) rest
 
 -- the number of a commit, where one is named
-abbrev pub is_end : Option ℕ → Bool
-is_end until = unwrap_or (option_map is_number until) true
+abbrev pub is_until : Option ℕ → Bool
+is_until until = unwrap_or (option_map is_number until) true
 
 -- lines of one word
 abbrev pub is_single : Command → Bool

@@ -1,7 +1,7 @@
 //! Byte strings, between quotes or in hexadecimal.
 ghost use Rattle.std.specs.Prelude.{◌≡◌, ◌≢◌, ℕ, List, [], ◌∷◌, ◌++◌, ◌+◌, ◌*◌, ◌≤◌, Some, None, Option, IsTrue, MatchOption, MatchResult, length, option_map, ◌⊎◌};
 ghost use Rattle.std.specs.List.{list_all};
-ghost use Rattle.mdb_model.specs.Script.{Bytes, Spells, is_plain, is_key, is_value, hex_value, hex_bytes};
+ghost use Rattle.mdb_model.specs.Script.{Bytes, SpellsPart, is_plain, is_key, is_value, hex_value, hex_bytes};
 ghost use Rattle.dbm_script.specs.declared.fault.LineFault.TheVariants.{Syntax};
 ghost use Rattle.dbm_script.specs.Cutting.{first_text, rest_after};
 
@@ -88,7 +88,7 @@ fn between<'a>(text: &'a [u8], front: &[u8]) -> Option<&'a [u8]>
 // The bytes of a byte string, where they are no more than a value may have.
 fn bytes_of(text: &[u8]) -> Option<ValueBuf>
     ensures { MatchOption result ((bytes : List ℕ) → length bytes ≤ 1500
-        → Spells (Bytes bytes) text.now → ⊥) (λ bytes. Spells (Bytes bytes.items) text.now) }
+        → SpellsPart (Bytes bytes) text.now → ⊥) (λ bytes. SpellsPart (Bytes bytes.items) text.now) }
 {
     if let Some(inner) = between(text, b"'") {
         return plain_bytes(inner);
@@ -100,9 +100,9 @@ fn bytes_of(text: &[u8]) -> Option<ValueBuf>
 /// The bytes of a key, and what follows it.
 pub fn key(rest: &[u8]) -> Result<(ValueBuf, &[u8]), LineFault>
     ensures { MatchResult result (λ r. IsTrue (is_key r.0.items)
-        × Spells (Bytes r.0.items) (first_text rest.now) × (r.1.now ≡ rest_after rest.now))
+        × SpellsPart (Bytes r.0.items) (first_text rest.now) × (r.1.now ≡ rest_after rest.now))
         (λ e. (e ≡ Syntax) × ((bytes : List ℕ) → IsTrue (is_key bytes)
-        → Spells (Bytes bytes) (first_text rest.now) → ⊥)) }
+        → SpellsPart (Bytes bytes) (first_text rest.now) → ⊥)) }
 {
     let (text, rest) = cut(rest);
     match bytes_of(text) {
@@ -114,9 +114,9 @@ pub fn key(rest: &[u8]) -> Result<(ValueBuf, &[u8]), LineFault>
 /// The bytes of a value, and what follows it.
 pub fn value(rest: &[u8]) -> Result<(ValueBuf, &[u8]), LineFault>
     ensures { MatchResult result (λ r. IsTrue (is_value r.0.items)
-        × Spells (Bytes r.0.items) (first_text rest.now) × (r.1.now ≡ rest_after rest.now))
+        × SpellsPart (Bytes r.0.items) (first_text rest.now) × (r.1.now ≡ rest_after rest.now))
         (λ e. (e ≡ Syntax) × ((bytes : List ℕ) → IsTrue (is_value bytes)
-        → Spells (Bytes bytes) (first_text rest.now) → ⊥)) }
+        → SpellsPart (Bytes bytes) (first_text rest.now) → ⊥)) }
 {
     let (text, rest) = cut(rest);
     match bytes_of(text) {

@@ -1,11 +1,11 @@
-//! The forms of lines, each read from behind its first word.
+//! The forms of lines, each read from after its first word.
 ghost use Rattle.std.specs.Prelude.{◌≡◌, ◌≢◌, ℕ, List, [], ◌∷◌, IsTrue, MatchBool, MatchOption, MatchResult, codes};
 ghost use Rattle.mdb_model.specs.declared.script.PageKind.{PageKind};
 ghost use Rattle.mdb_model.specs.declared.script.BackupKind.{BackupKind};
 ghost use Rattle.mdb_model.specs.declared.script.Command.{Command};
-ghost use Rattle.mdb_model.specs.Script.{Word, Number, Bytes, Spells, page_kind_part, backup_kind_part, parts_of, past_blanks, is_session, is_table, is_key, is_value};
+ghost use Rattle.mdb_model.specs.Script.{Word, Number, Bytes, SpellsPart, page_kind_part, backup_kind_part, parts_of, past_blanks, is_session, is_table, is_key, is_value};
 ghost use Rattle.dbm_script.specs.declared.fault.LineFault.TheVariants.{Syntax, Memory};
-ghost use Rattle.dbm_script.specs.Cutting.{first_text, rest_after, Fits};
+ghost use Rattle.dbm_script.specs.Cutting.{first_text, rest_after, FitsLine};
 ghost use Rattle.dbm_script.specs.Reading.{IsRest, IsLast, is_single};
 
 use crate::byte_strings::{key, value};
@@ -47,9 +47,9 @@ pub fn last(rest: &[u8], command: Command) -> Result<Command, LineFault>
 // A table and a key, which end the line.
 fn place(rest: &[u8]) -> Result<(Table, ValueBuf), LineFault>
     ensures { MatchResult result (λ r. IsTrue (is_table r.0.0) × IsTrue (is_key r.1.items)
-        × Fits (Number r.0.0 ∷ Bytes r.1.items ∷ []) rest.now)
+        × FitsLine (Number r.0.0 ∷ Bytes r.1.items ∷ []) rest.now)
         (λ e. (e ≡ Syntax) × ((t : ℕ) (k : List ℕ) → IsTrue (is_table t) → IsTrue (is_key k)
-        → Fits (Number t ∷ Bytes k ∷ []) rest.now → ⊥)) }
+        → FitsLine (Number t ∷ Bytes k ∷ []) rest.now → ⊥)) }
 {
     let (table, rest) = table(rest)?;
     let (key, rest) = key(rest)?;
@@ -60,10 +60,10 @@ fn place(rest: &[u8]) -> Result<(Table, ValueBuf), LineFault>
 // A table, a key and a value, which end the line.
 fn row(rest: &[u8]) -> Result<(Table, ValueBuf, ValueBuf), LineFault>
     ensures { MatchResult result (λ r. IsTrue (is_table r.0.0) × IsTrue (is_key r.1.items)
-        × IsTrue (is_value r.2.items) × Fits (Number r.0.0 ∷ Bytes r.1.items ∷ Bytes r.2.items
+        × IsTrue (is_value r.2.items) × FitsLine (Number r.0.0 ∷ Bytes r.1.items ∷ Bytes r.2.items
         ∷ []) rest.now)
         (λ e. (e ≡ Syntax) × ((t : ℕ) (k v : List ℕ) → IsTrue (is_table t) → IsTrue (is_key k)
-        → IsTrue (is_value v) → Fits (Number t ∷ Bytes k ∷ Bytes v ∷ []) rest.now → ⊥)) }
+        → IsTrue (is_value v) → FitsLine (Number t ∷ Bytes k ∷ Bytes v ∷ []) rest.now → ⊥)) }
 {
     let (table, rest) = table(rest)?;
     let (key, rest) = key(rest)?;
@@ -142,7 +142,7 @@ fn scan_table(session: Session, rest: &[u8]) -> Result<Command, LineFault>
     last(rest, Command::ScanTable(session, table))
 }
 
-// A line of a session, behind the session.
+// A line of a session, after the session.
 fn session_verb(alloc: Global, session: Session, rest: &[u8]) -> Result<Command, LineFault>
     requires { IsTrue (is_session session.0) }
     ensures { IsRest (Word (codes "s") ∷ Number session.0 ∷ []) rest.now result }
@@ -179,9 +179,10 @@ pub fn session_line(alloc: Global, rest: &[u8]) -> Result<Command, LineFault>
 
 // The kind of a backup of pages, and what follows it.
 fn page_kind(rest: &[u8]) -> Result<(PageKind, &[u8]), LineFault>
-    ensures { MatchResult result (λ r. Spells (page_kind_part r.0) (first_text rest.now)
+    ensures { MatchResult result (λ r. SpellsPart (page_kind_part r.0) (first_text rest.now)
         × (r.1.now ≡ rest_after rest.now))
-        (λ e. (e ≡ Syntax) × ((kind : PageKind) → Spells (page_kind_part kind) (first_text rest.now)
+        (λ e. (e ≡ Syntax) × ((kind : PageKind)
+        → SpellsPart (page_kind_part kind) (first_text rest.now)
         → ⊥)) }
 {
     let (text, rest) = cut(rest);
@@ -196,10 +197,10 @@ fn page_kind(rest: &[u8]) -> Result<(PageKind, &[u8]), LineFault>
 
 // The kind of a backup, and what follows it.
 fn backup_kind(rest: &[u8]) -> Result<(BackupKind, &[u8]), LineFault>
-    ensures { MatchResult result (λ r. Spells (backup_kind_part r.0) (first_text rest.now)
+    ensures { MatchResult result (λ r. SpellsPart (backup_kind_part r.0) (first_text rest.now)
         × (r.1.now ≡ rest_after rest.now))
         (λ e. (e ≡ Syntax) × ((kind : BackupKind)
-        → Spells (backup_kind_part kind) (first_text rest.now) → ⊥)) }
+        → SpellsPart (backup_kind_part kind) (first_text rest.now) → ⊥)) }
 {
     let (text, after) = cut(rest);
     if is_word(text, b"LOG") {

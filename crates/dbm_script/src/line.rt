@@ -72,8 +72,6 @@ pub fn parse_line(alloc: Global, line: &[u8]) -> Result<Option<Command>, LineFau
     if is_blank_or_comment(line) {
         return Ok(None);
     }
-    match command(alloc, line) {
-        Ok(command) => Ok(Some(command)),
-        Err(fault) => Err(fault),
-    }
+    let command = command(alloc, line)?;
+    Ok(Some(command))
 }

@@ -1,10 +1,10 @@
-//! The line that recovers: media, and what to do behind them.
+//! The line that recovers: media, and what to do after them.
 ghost use Rattle.std.specs.Prelude.{◌≡◌, ◌≢◌, ◌⊎◌, ℕ, ◌<◌, ◌≤◌, Option, Some, [], ◌∷◌, IsTrue, MatchBool, MatchResult, length, map, codes};
 ghost use Rattle.std.specs.List.{list_all};
 ghost use Rattle.mdb_model.specs.Script.{Word, Number, until_part, is_medium, number_of};
 ghost use Rattle.dbm_script.specs.declared.fault.LineFault.TheVariants.{Syntax};
-ghost use Rattle.dbm_script.specs.Cutting.{first_text, rest_after, Fits, AreNumbers};
-ghost use Rattle.dbm_script.specs.Reading.{IsRest, is_end};
+ghost use Rattle.dbm_script.specs.Cutting.{first_text, rest_after, FitsLine, AreNumbers};
+ghost use Rattle.dbm_script.specs.Reading.{IsRest, is_until};
 
 use crate::cutting::cut;
 use crate::fault::LineFault;
@@ -33,7 +33,7 @@ fn media(rest: &[u8]) -> (ArrayVec<u8, 99>, &[u8])
     (media, left)
 }
 
-// Whether the log follows, and what is behind it.
+// Whether the log follows, and what is after it.
 fn log_option(rest: &[u8]) -> (bool, &[u8])
     ensures { MatchBool result.0 ((first_text rest.now ≡ codes "log")
         × (result.1.now ≡ rest_after rest.now)) ((first_text rest.now ≢ codes "log")
@@ -48,9 +48,10 @@ fn log_option(rest: &[u8]) -> (bool, &[u8])
 
 // The commit that the line ends with, if it names one.
 fn until_option(rest: &[u8]) -> Result<Option<u64>, LineFault>
-    ensures { MatchResult result (λ until. IsTrue (is_end until) × Fits (until_part until) rest.now)
-        (λ e. (e ≡ Syntax) × ((until : Option ℕ) → IsTrue (is_end until)
-        → Fits (until_part until) rest.now → ⊥)) }
+    ensures { MatchResult result (λ until. IsTrue (is_until until)
+        × FitsLine (until_part until) rest.now)
+        (λ e. (e ≡ Syntax) × ((until : Option ℕ) → IsTrue (is_until until)
+        → FitsLine (until_part until) rest.now → ⊥)) }
 {
     let (text, after) = cut(rest);
     if !is_word(text, b"until") {
@@ -66,7 +67,7 @@ fn until_option(rest: &[u8]) -> Result<Option<u64>, LineFault>
     Ok(Some(number))
 }
 
-// The line behind its media.
+// The line after its media.
 fn recover_options(media: ArrayVec<u8, 99>, rest: &[u8]) -> Result<Command, LineFault>
     requires media { IsTrue (list_all is_medium media.items) }
     requires some { 0 < length media.items }

@@ -103,7 +103,7 @@ fn found_text(value: &ValueBuf, into: &mut LineBuf)
     finish(into, b"", &[]);
 }
 
-/// The text of a reply, behind so many items of a scan or a list of media. It replaces what
+/// The text of a reply, after so many items of a scan or a list of media. It replaces what
 /// stood in `into`.
 pub fn reply_text(items: u64, reply: &Reply, into: &mut LineBuf)
     ensures { into.new.items ≡ line_of (reply_words items reply.now) }

@@ -1,4 +1,4 @@
-//! An input that gives what it is told to give.
+//! An input that gives what a test says.
 use std::alloc::Allocator;
 use std::cell::Cell;
 use std::io;

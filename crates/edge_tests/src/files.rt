@@ -44,7 +44,7 @@ fn files_keep_what_is_written(rt: HostRuntime) -> Result<(), Fail> {
     Ok(())
 }
 
-// What a host is told whose files another one has.
+// What is reported to a host whose files another one has.
 const BARRED: [Step; 7] = [
     Step::Size(LOG, Some(2)),
     Step::ReadFails(LOG, 0),

@@ -337,7 +337,7 @@ fn short_reads_and_writes_are_gone_on_with(rt: HostRuntime) -> Result<(), Fail> 
     let mut into = [0u8; 10];
     assert_eq!(rt; host.read(LOG, 4, &mut into), OK);
     assert_eq!(rt; &into, b"\0abcdefgh\0");
-    // a text is said whole, or the fault is told
+    // a text is said whole, or the fault is reported
     assert_eq!(rt; host.say(b"one\n"), OK);
     recorder.fail(Some(Event::Say));
     assert_eq!(rt; host.say(b"two\n"), FAILS);

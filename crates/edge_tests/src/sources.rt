@@ -40,7 +40,7 @@ fn an_input_that_breaks_is_no_end(rt: HostRuntime) -> Result<(), Fail> {
     };
     let mut source = StdSource::new(&input);
     let mut buffer = [0u8; 4];
-    // a read that a signal cut short is made again, and another fault is told
+    // a read that a signal cut short is made again, and another fault is reported
     let answers: [(Result<usize, Failed>, &[u8; 4], usize); 6] = [
         (Ok(3), b"abc\0", 1),
         (Ok(2), b"dec\0", 3),

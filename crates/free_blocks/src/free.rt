@@ -57,13 +57,13 @@ impl FreeBlocks {
     }
 
     /// Makes a block free.
-    pub fn give(&mut self, b: u32)
-        requires below { b < length self.old }
-        requires taken { IsFree self.old b → ⊥ }
-        ensures { self.new ≡ slice_set self.old b true }
+    pub fn give(&mut self, block: u32)
+        requires below { block < length self.old }
+        requires taken { IsFree self.old block → ⊥ }
+        ensures { self.new ≡ slice_set self.old block true }
     {
-        let word = b as usize / BITS;
-        self.words[word] |= 1 << (b as usize % BITS);
+        let word = block as usize / BITS;
+        self.words[word] |= 1 << (block as usize % BITS);
         self.count += 1;
         self.low = self.low.min(word);
     }
@@ -94,11 +94,11 @@ impl FreeBlocks {
     }
 
     /// Whether a block is free.
-    pub fn is_free(&self, b: u32) -> bool
-        requires { b < length self.now }
-        ensures { IsTrue result ↔ IsFree self.now b }
+    pub fn is_free(&self, block: u32) -> bool
+        requires { block < length self.now }
+        ensures { IsTrue result ↔ IsFree self.now block }
     {
-        self.words[b as usize / BITS] >> (b as usize % BITS) & 1 == 1
+        self.words[block as usize / BITS] >> (block as usize % BITS) & 1 == 1
     }
 }
 

@@ -33,38 +33,38 @@ impl Marks {
         Ok(Marks { bits })
     }
 
-    /// Sets mark i of a block, which may have it already.
-    pub fn mark(&mut self, b: u32, i: u8)
-        requires below { b < length self.old }
-        requires kind { i < 16 }
-        ensures { self.new ≡ with_mark self.old b i true }
+    /// Sets a mark of a block, which may have it already.
+    pub fn mark(&mut self, block: u32, kind: u8)
+        requires below { block < length self.old }
+        requires kind { kind < 16 }
+        ensures { self.new ≡ with_mark self.old block kind true }
     {
-        self.bits[b as usize] |= 1 << i;
+        self.bits[block as usize] |= 1 << kind;
     }
 
-    /// Takes mark i of a block away, which it need not have.
-    pub fn unmark(&mut self, b: u32, i: u8)
-        requires below { b < length self.old }
-        requires kind { i < 16 }
-        ensures { self.new ≡ with_mark self.old b i false }
+    /// Takes a mark of a block away, which it need not have.
+    pub fn unmark(&mut self, block: u32, kind: u8)
+        requires below { block < length self.old }
+        requires kind { kind < 16 }
+        ensures { self.new ≡ with_mark self.old block kind false }
     {
-        self.bits[b as usize] &= !(1 << i);
+        self.bits[block as usize] &= !(1 << kind);
     }
 
-    /// Whether a block has mark i.
-    pub fn has(&self, b: u32, i: u8) -> bool
-        requires below { b < length self.now }
-        requires kind { i < 16 }
-        ensures { IsTrue result ↔ HasMark self.now b i }
+    /// Whether a block has a mark of this kind.
+    pub fn has(&self, block: u32, kind: u8) -> bool
+        requires below { block < length self.now }
+        requires kind { kind < 16 }
+        ensures { IsTrue result ↔ HasMark self.now block kind }
     {
-        self.bits[b as usize] >> i & 1 == 1
+        self.bits[block as usize] >> kind & 1 == 1
     }
 
     /// Whether a block has any mark.
-    pub fn marked(&self, b: u32) -> bool
-        requires { b < length self.now }
-        ensures { IsTrue result ↔ IsMarked self.now b }
+    pub fn marked(&self, block: u32) -> bool
+        requires { block < length self.now }
+        ensures { IsTrue result ↔ IsMarked self.now block }
     {
-        self.bits[b as usize] != 0
+        self.bits[block as usize] != 0
     }
 }

@@ -16,7 +16,7 @@ use Rattle.mdb_bytes.proofs.Decoding.{decoded-spells, spelled-decoded}
 use Rattle.mdb_bytes.proofs.SlotRecordLaws.{log_info_again, restart_again}
 use Rattle.gate_slots.specs.declared.body.SlotBody.{SlotBody}
 use Rattle.gate_slots.specs.declared.body.SlotBody.TheVariants.{Restart, Log as LogBody}
-use Rattle.gate_slots.specs.Slots.{body_of, IsFor}
+use Rattle.gate_slots.specs.Slots.{decoded_body, IsFor}
 
 -- what was decoded exactly is what the bytes spell
 pub decodes_is : {X : Type 0} (format : Format X) → ReadsBack format → (bytes : List ℕ) (o : Option X) → Decodes format bytes o → o ≡ decoded format bytes
@@ -28,39 +28,39 @@ decodes_is format again bytes None none =
     ] refl
 
 -- the bytes of a restart record, on each device that holds one
-restart_spelled : (restart : RestartRecord) (bytes : List ℕ) → Spells restart_format restart bytes → (device : Device) → IsFor device (Restart restart) → body_of device bytes ≡ Some (Restart restart)
+restart_spelled : (restart : RestartRecord) (bytes : List ℕ) → Spells restart_format restart bytes → (device : Device) → IsFor device (Restart restart) → decoded_body device bytes ≡ Some (Restart restart)
 restart_spelled restart bytes spells (Data volume) kind = ap (option_map Restart) (spelled-decoded restart_format restart_again bytes restart spells)
 restart_spelled restart bytes spells Log kind = absurd kind
 restart_spelled restart bytes spells (Medium medium) kind = absurd kind
 
 -- the same of a body that is one
 pub restart_encoded : (body : SlotBody) (restart : RestartRecord) (bytes : List ℕ) → body ≡ Restart restart → Spells restart_format restart bytes
-    → (device : Device) → IsFor device body → body_of device bytes ≡ Some body
+    → (device : Device) → IsFor device body → decoded_body device bytes ≡ Some body
 restart_encoded body restart bytes is spells =
-    subst (λ (b : SlotBody). (device : Device) → IsFor device b → body_of device bytes ≡ Some b) (sym is) (restart_spelled restart bytes spells)
+    subst (λ (b : SlotBody). (device : Device) → IsFor device b → decoded_body device bytes ≡ Some b) (sym is) (restart_spelled restart bytes spells)
 
 -- the bytes of a log info, on each device that holds one
-log_spelled : (info : LogInfo) (bytes : List ℕ) → Spells log_info_format info bytes → (device : Device) → IsFor device (LogBody info) → body_of device bytes ≡ Some (LogBody info)
+log_spelled : (info : LogInfo) (bytes : List ℕ) → Spells log_info_format info bytes → (device : Device) → IsFor device (LogBody info) → decoded_body device bytes ≡ Some (LogBody info)
 log_spelled info bytes spells (Data volume) kind = absurd kind
 log_spelled info bytes spells Log kind = ap (option_map LogBody) (spelled-decoded log_info_format log_info_again bytes info spells)
 log_spelled info bytes spells (Medium medium) kind = absurd kind
 
 -- the same of a body that is one
 pub log_encoded : (body : SlotBody) (info : LogInfo) (bytes : List ℕ) → body ≡ LogBody info → Spells log_info_format info bytes
-    → (device : Device) → IsFor device body → body_of device bytes ≡ Some body
+    → (device : Device) → IsFor device body → decoded_body device bytes ≡ Some body
 log_encoded body info bytes is spells =
-    subst (λ (b : SlotBody). (device : Device) → IsFor device b → body_of device bytes ≡ Some b) (sym is) (log_spelled info bytes spells)
+    subst (λ (b : SlotBody). (device : Device) → IsFor device b → decoded_body device bytes ≡ Some b) (sym is) (log_spelled info bytes spells)
 
 -- what decodes on a data volume
 pub data_decoded : (device : Device) (volume : ℕ) (bytes : List ℕ) (o : Option RestartRecord) → device ≡ Data volume → Decodes restart_format bytes o
-    → option_map Restart o ≡ body_of device bytes
+    → option_map Restart o ≡ decoded_body device bytes
 data_decoded device volume bytes o is decodes =
-    ap (option_map Restart) (decodes_is restart_format restart_again bytes o decodes) ∙ ap (λ (d : Device). body_of d bytes) (sym is)
+    ap (option_map Restart) (decodes_is restart_format restart_again bytes o decodes) ∙ ap (λ (d : Device). decoded_body d bytes) (sym is)
 
 -- what decodes on the log volume
-pub log_decoded : (device : Device) (bytes : List ℕ) (o : Option LogInfo) → device ≡ Log → Decodes log_info_format bytes o → option_map LogBody o ≡ body_of device bytes
+pub log_decoded : (device : Device) (bytes : List ℕ) (o : Option LogInfo) → device ≡ Log → Decodes log_info_format bytes o → option_map LogBody o ≡ decoded_body device bytes
 log_decoded device bytes o is decodes =
-    ap (option_map LogBody) (decodes_is log_info_format log_info_again bytes o decodes) ∙ ap (λ (d : Device). body_of d bytes) (sym is)
+    ap (option_map LogBody) (decodes_is log_info_format log_info_again bytes o decodes) ∙ ap (λ (d : Device). decoded_body d bytes) (sym is)
 
 -- Parts of bytes, of any length: a long literal would be unfolded
 

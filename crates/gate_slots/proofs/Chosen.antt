@@ -15,13 +15,13 @@ use Rattle.gate_slots.specs.declared.place.Slot.{Slot}
 use Rattle.gate_slots.specs.declared.place.Slot.TheVariants.{First, Second}
 use Rattle.gate_slots.specs.declared.place.SlotPlace.{SlotPlace}
 use Rattle.gate_slots.specs.declared.slots.Slots.{Slots}
-use Rattle.gate_slots.specs.Slots.{other_of, start_of, gate_in, slot_in, in_force, IsFor, KeepsBody, Yields, Waits, IsReady, IsFound}
-use Rattle.gate_slots.specs.Choice.{IsPageOf, HasKept, page_counts, page_of, IsChosen}
+use Rattle.gate_slots.specs.Slots.{other_of, slot_start, gate_in, slot_in, in_force, IsFor, KeepsBody, Yields, Waits, IsReady, HasBody}
+use Rattle.gate_slots.specs.Choice.{IsPageOf, HasKept, page_counts, page_of_slot, IsChosen}
 use Rattle.gate_slots.proofs.Places.{told_shut}
 use Rattle.gate_slots.proofs.Forces.{ready_force}
 
 -- the last byte of a slot
-pub page_gate : (image : Image) (place : SlotPlace) (slot : Slot) (at : ℕ) (whole back : List ℕ) → at ≡ start_of place slot → slot_len < length whole → Has image place.device at whole
+pub page_gate : (image : Image) (place : SlotPlace) (slot : Slot) (at : ℕ) (whole back : List ℕ) → at ≡ slot_start place slot → slot_len < length whole → Has image place.device at whole
     → ((k d : ℕ) → get_or back k d ≡ get_or whole (slot_len + k) d) → (get_or back 0 0 == open_gate) ≡ (gate_in image place slot == open_gate)
 page_gate image place slot at whole back is long has behind =
     let e : slot_len + 0 ≡ slot_len = omega arith in
@@ -34,7 +34,7 @@ pub page_same : (a b : Image) (place : SlotPlace) (slot : Slot) (page : SlotPage
 page_same a b place slot page same is = subst (λ (x : Image). IsPageOf x place slot page) (sym (same_image a b same)) is
 
 -- each of two pages is that of its slot
-page_is : (image : Image) (place : SlotPlace) (first second : SlotPage) → IsPageOf image place First first → IsPageOf image place Second second → (slot : Slot) → IsPageOf image place slot (page_of first second slot)
+page_is : (image : Image) (place : SlotPlace) (first second : SlotPage) → IsPageOf image place First first → IsPageOf image place Second second → (slot : Slot) → IsPageOf image place slot (page_of_slot first second slot)
 page_is image place first second one two First = one
 page_is image place first second one two Second = two
 
@@ -51,7 +51,7 @@ module _ (image : Image) (place : SlotPlace) (first second : SlotPage) (one : Is
     (chosen : IsChosen place first second slots body) where
   -- the page of the slot that is not current
   abbrev other_page : SlotPage
-  other_page = page_of first second (other_of slots.current)
+  other_page = page_of_slot first second (other_of slots.current)
 
   -- it is that of its slot
   other_is : IsPageOf image place (other_of slots.current) other_page
@@ -68,7 +68,7 @@ module _ (image : Image) (place : SlotPlace) (first second : SlotPage) (one : Is
   pub chosen_ready : IsReady slots body image
   chosen_ready = subst (λ (p : SlotPlace). IsReady (record slots { place = p }) body image) (sym chosen.place) (record {
     number = sym chosen.number;
-    here = sym (counts_is image place slots.current (page_of first second slots.current) (page_is image place first second one two slots.current)) ∙ chosen.here;
+    here = sym (counts_is image place slots.current (page_of_slot first second slots.current) (page_is image place first second one two slots.current)) ∙ chosen.here;
     waits = waits slots.other_open (sym chosen.other_open);
   })
 
@@ -77,15 +77,15 @@ module _ (image : Image) (place : SlotPlace) (first second : SlotPage) (one : Is
   chosen_force = subst (λ (p : SlotPlace). in_force image p ≡ Some body) chosen.place (ready_force slots body image chosen_ready)
 
 -- each of two pages has a record that keeps its limits, if any
-kept_of : (device : Device) (first second : SlotPage) (slot : Slot) → HasKept device first → HasKept device second → HasKept device (page_of first second slot)
+kept_of : (device : Device) (first second : SlotPage) (slot : Slot) → HasKept device first → HasKept device second → HasKept device (page_of_slot first second slot)
 kept_of device first second First one two = one
 kept_of device first second Second one two = two
 
 -- what is known of the slots that were found
 pub chosen_found : (place : SlotPlace) (first second : SlotPage) (slots : Slots) (body : SlotBody) → IsChosen place first second slots body → HasKept place.device first → HasKept place.device second
-    → IsFound place slots body
+    → HasBody place slots body
 chosen_found place first second slots body chosen one two =
-    let page = page_of first second slots.current in
+    let page = page_of_slot first second slots.current in
     let has : page.body ≡ Some body = counts_body page page.is_open refl body chosen.here in
     let kept : IsFor place.device body × KeepsBody body =
     subst (λ (o : Option SlotBody). IfSome o (λ body. IsFor place.device body × KeepsBody body)) has (kept_of place.device first second slots.current one two) in

@@ -7,16 +7,18 @@ use Rattle.std.specs.Prelude.{nat_lt, ◌==◌}
 use Rattle.std.proofs.lemmas.Bool.{cases_eq, cases_Bool, lt-ltb, ltb-true}
 use Rattle.mdb_model.specs.Images.{Image}
 use Rattle.mdb_host.specs.Disk.{Disk, Goes, Arrives, Agree}
-use Rattle.mdb_host.proofs.Moments.{chain, widen, onward, same_image}
+use Rattle.mdb_host.proofs.Moments.{chain, widen, same_image}
 use Rattle.mdb_bytes.specs.Groups.{open_gate}
 use Rattle.gate_slots.specs.declared.body.SlotBody.{SlotBody}
 use Rattle.gate_slots.specs.declared.place.Slot.{Slot}
 use Rattle.gate_slots.specs.declared.place.Slot.TheVariants.{First, Second}
 use Rattle.gate_slots.specs.declared.place.SlotPlace.{SlotPlace}
 use Rattle.gate_slots.specs.declared.slots.Slots.{Slots}
-use Rattle.gate_slots.specs.Slots.{other_of, gate_in, body_in, body_of, slot_number, slot_in, greater, in_force, Yields, Waits, IsReady, IsBlank}
-use Rattle.gate_slots.specs.Steps.{SlotsTorn, KeepsOther, IsTold, Replaces, Replaced, Switches, Switched, Begins, Begun}
+use Rattle.gate_slots.specs.Slots.{other_of, gate_in, body_in, decoded_body, slot_number, slot_in, greater, in_force, Yields, Waits, IsReady, IsBlank}
+use Rattle.gate_slots.specs.Steps.{SlotsTorn, KeepsOther, IsGateKnown, Replaces, Replaced, Switches, HasSwitched, Begins, Begun}
 use Rattle.gate_slots.proofs.Places.{slots_none, other_held, slot_open, slot_shut, counts_open, told_shut, told_open}
+-- crates above cite it from here
+pub use Rattle.mdb_host.proofs.Moments.{agree_on}
 
 -- the slot beside the slot beside one
 other_twice : (slot : Slot) → other_of (other_of slot) ≡ slot
@@ -56,7 +58,7 @@ less_yields First body other lt = omega (arith, lt)
 less_yields Second body other lt = lt
 
 -- a body that would yield does, whether its slot is open or not
-yields_held : (image : Image) (place : SlotPlace) (slot other : Slot) (body : SlotBody) → Yields slot body (body_of place.device (body_in image place other)) → Yields slot body (slot_in image place other)
+yields_held : (image : Image) (place : SlotPlace) (slot other : Slot) (body : SlotBody) → Yields slot body (decoded_body place.device (body_in image place other)) → Yields slot body (slot_in image place other)
 yields_held image place slot other body yields = elim (cases_eq (gate_in image place other) open_gate) [
   | inl is ↦ subst (λ (o : Option SlotBody). Yields slot body o) (sym (slot_open image place other is)) yields
   | inr shut ↦ subst (λ (o : Option SlotBody). Yields slot body o) (sym (slot_shut image place other shut)) (yields_none slot body)
@@ -88,12 +90,12 @@ module _ (slots : Slots) (next : SlotBody) (a b : Image) where
   abbrev target : Slot
   target = other_of slots.current
 
-  -- it is closed where it is not told to be open
-  waits_told : (body : SlotBody) → Waits slots.other_open slots body a → IsTold slots.other_open slots.place target a
+  -- it is closed where it is not known to be open
+  waits_told : (body : SlotBody) → Waits slots.other_open slots body a → IsGateKnown slots.other_open slots.place target a
   waits_told body waits shut = let P : Bool → Type 0 = λ o. Waits o slots body a in subst P shut waits
 
-  -- where it is told to be open, its body would yield
-  waits_open : (body : SlotBody) → Waits slots.other_open slots body a → slots.other_open ≡ true → Yields slots.current body (body_of slots.place.device (body_in a slots.place target))
+  -- where it is known to be open, its body would yield
+  waits_open : (body : SlotBody) → Waits slots.other_open slots body a → slots.other_open ≡ true → Yields slots.current body (decoded_body slots.place.device (body_in a slots.place target))
   waits_open body waits opens = let P : Bool → Type 0 = λ o. Waits o slots body a in subst P opens waits
 
   -- the current slot holds what it held
@@ -123,7 +125,7 @@ module _ (slots : Slots) (next : SlotBody) (a b : Image) where
     }
 
     -- after it the next one is
-    pub switched : (now : Slots) → now ≡ record slots { number = slots.number + 1; current = target; other_open = true } → Replaced slots.place target next a b → Switched slots now next a b
+    pub switched : (now : Slots) → now ≡ record slots { number = slots.number + 1; current = target; other_open = true } → Replaced slots.place target next a b → HasSwitched slots now next a b
     switched now is step = record {
       torn = step.keeps.torn;
       ready = λ body ready. subst (λ (s : Slots). IsReady s next b) (sym is) (record {
@@ -133,8 +135,8 @@ module _ (slots : Slots) (next : SlotBody) (a b : Image) where
             let old = counts_open a slots.place slots.current body ready.here in
             let bytes : body_in b slots.place slots.current ≡ body_in a slots.place slots.current =
             subst (λ (s : Slot). body_in b slots.place s ≡ body_in a slots.place s) (other_twice slots.current) step.keeps.body in
-            let is_body : body_of slots.place.device (body_in b slots.place slots.current) ≡ Some body = ap (λ (l : List ℕ). body_of slots.place.device l) bytes ∙ old.1 in
-            subst (λ (s : Slot). Yields target next (body_of slots.place.device (body_in b slots.place s))) (sym (other_twice slots.current))
+            let is_body : decoded_body slots.place.device (body_in b slots.place slots.current) ≡ Some body = ap (λ (l : List ℕ). decoded_body slots.place.device l) bytes ∙ old.1 in
+            subst (λ (s : Slot). Yields target next (decoded_body slots.place.device (body_in b slots.place s))) (sym (other_twice slots.current))
             (subst (λ (o : Option SlotBody). Yields target next o) (sym is_body) (less_yields target next body (omega (arith, one_more, ready.number))));
       });
     }
@@ -143,11 +145,11 @@ module _ (slots : Slots) (next : SlotBody) (a b : Image) where
 
 module _ (seen : Image) (place : SlotPlace) (body : SlotBody) (a b : Image) (first_open : Bool) (first_is : first_open ≡ (gate_in seen place First == open_gate)) where
   -- the first slot is closed where a read does not give an open gate
-  blank_told : IsBlank seen place a → IsTold first_open place First a
+  blank_told : IsBlank seen place a → IsGateKnown first_open place First a
   blank_told blank shut = subst (λ (n : ℕ). n ≢ open_gate) (sym (blank.gates First)) (told_shut (gate_in seen place First) first_open first_is shut)
 
   -- an open gate on no record
-  blank_body : IsBlank seen place a → (slot : Slot) (is_open : Bool) → is_open ≡ (gate_in seen place slot == open_gate) → is_open ≡ true → body_of place.device (body_in a place slot) ≡ None
+  blank_body : IsBlank seen place a → (slot : Slot) (is_open : Bool) → is_open ≡ (gate_in seen place slot == open_gate) → is_open ≡ true → decoded_body place.device (body_in a place slot) ≡ None
   blank_body blank slot is_open is opens =
       sym (slot_open a place slot (blank.gates slot ∙ told_open (gate_in seen place slot) is_open is opens)) ∙ blank.none slot
 
@@ -188,8 +190,8 @@ module _ (seen : Image) (place : SlotPlace) (body : SlotBody) (a b : Image) (fir
     second_waits : KeepsOther place First a b → IsBlank seen place a → (is_open : Bool) → is_open ≡ second_open
         → Waits is_open (record { place = place; number = 1; current = First; other_open = second_open }) body b
     second_waits keeps blank true is =
-        let none : body_of place.device (body_in b place Second) ≡ None =
-        ap (λ (l : List ℕ). body_of place.device l) keeps.body ∙ blank_body blank Second second_open second_is (sym is) in
+        let none : decoded_body place.device (body_in b place Second) ≡ None =
+        ap (λ (l : List ℕ). decoded_body place.device l) keeps.body ∙ blank_body blank Second second_open second_is (sym is) in
         subst (λ (o : Option SlotBody). Yields First body o) (sym none) tt
     second_waits keeps blank false is =
         subst (λ (n : ℕ). n ≢ open_gate) (sym (keeps.gate ∙ blank.gates Second)) (told_shut (gate_in seen place Second) second_open second_is (sym is))
@@ -229,10 +231,6 @@ module _ (seen : Image) (place : SlotPlace) (body : SlotBody) (first_open : Bool
 pub slots_after : (place : SlotPlace) (a b c : Image) → Agree a b → SlotsTorn place b c → SlotsTorn place a c
 slots_after place a b c same torn = subst (λ (x : Image). SlotsTorn place x c) (sym (same_image a b same)) torn
 
--- two calls that change no device
-pub agree_on : (d0 d1 d2 : Disk) → Goes d0 d1 Agree → Goes d1 d2 Agree → Goes d0 d2 Agree
-agree_on d0 d1 d2 one two = onward d0 d1 d2 Agree (λ a b c x y e. y e ∙ x e) one two
-
 -- A whole call of `switch`
 
 module _ (slots : Slots) (next : SlotBody) (one_more : slot_number next ≡ slots.number + 1) (slot : Slot) (slot_is : slot ≡ other_of slots.current) (d0 d1 : Disk) where
@@ -244,7 +242,7 @@ module _ (slots : Slots) (next : SlotBody) (one_more : slot_number next ≡ slot
 
   -- after it
   pub switch_arrives : (number : ℕ) → number ≡ slot_number next → Arrives d0 d1 (Replaced slots.place slot next)
-      → Arrives d0 d1 (Switched slots (record { place = slots.place; number = number; current = slot; other_open = true }) next)
+      → Arrives d0 d1 (HasSwitched slots (record { place = slots.place; number = number; current = slot; other_open = true }) next)
   switch_arrives number number_is there image left =
       let a = there image left in (
         a.0,

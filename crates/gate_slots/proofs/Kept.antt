@@ -13,7 +13,7 @@ use Rattle.gate_slots.specs.declared.place.Slot.{Slot}
 use Rattle.gate_slots.specs.declared.place.Slot.TheVariants.{First, Second}
 use Rattle.gate_slots.specs.declared.place.SlotPlace.{SlotPlace}
 use Rattle.gate_slots.specs.declared.slots.Slots.{Slots}
-use Rattle.gate_slots.specs.Slots.{other_of, start_of, gate_in, body_in, body_of, slot_in, greater, in_force, Yields, Waits, IsReady, IsBlank}
+use Rattle.gate_slots.specs.Slots.{other_of, slot_start, gate_in, body_in, decoded_body, slot_in, greater, in_force, Yields, Waits, IsReady, IsBlank}
 use Rattle.gate_slots.proofs.Places.{start_low, start_high, body_same}
 
 -- the bytes of the two pages are the same in both images, and the device is as long
@@ -28,7 +28,7 @@ same_device place old new is = record { size = ap size_of is; bytes = λ k low h
 module _ (place : SlotPlace) (old new : Image) (same : SamePages place old new) where
   -- the gates are the same
   gate_kept : (slot : Slot) → gate_in new place slot ≡ gate_in old place slot
-  gate_kept slot = same.bytes (start_of place slot + slot_len) (omega (arith, start_low place slot)) (omega (arith, start_high place slot))
+  gate_kept slot = same.bytes (slot_start place slot + slot_len) (omega (arith, start_low place slot)) (omega (arith, start_high place slot))
 
   -- so are the bodies
   body_kept : (slot : Slot) → body_in new place slot ≡ body_in old place slot
@@ -36,7 +36,7 @@ module _ (place : SlotPlace) (old new : Image) (same : SamePages place old new) 
 
   -- and so is what the slots hold
   slot_kept : (slot : Slot) → slot_in new place slot ≡ slot_in old place slot
-  slot_kept slot = λ i. cond (gate_kept slot i == open_gate) (body_of place.device (body_kept slot i)) None
+  slot_kept slot = λ i. cond (gate_kept slot i == open_gate) (decoded_body place.device (body_kept slot i)) None
 
   -- the same record is in force
   pub force_bytes : in_force new place ≡ in_force old place
@@ -50,7 +50,7 @@ module _ (slots : Slots) (body : SlotBody) (old new : Image) (same : SamePages s
   -- the other slot may still be written
   waits_bytes : (is_open : Bool) → Waits is_open slots body old → Waits is_open slots body new
   waits_bytes true yields =
-      subst (λ (bytes : List ℕ). Yields slots.current body (body_of slots.place.device bytes)) (sym (body_kept slots.place old new same (other_of slots.current))) yields
+      subst (λ (bytes : List ℕ). Yields slots.current body (decoded_body slots.place.device bytes)) (sym (body_kept slots.place old new same (other_of slots.current))) yields
   waits_bytes false shut = subst (λ (n : ℕ). n ≢ open_gate) (sym (gate_kept slots.place old new same (other_of slots.current))) shut
 
   -- slots that are ready still are

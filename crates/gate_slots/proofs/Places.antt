@@ -5,6 +5,7 @@
 use Rattle.std.proofs.Common.{◌≡◌, ◌≢◌, ◌⊎◌, refl, sym, ap, ◌∙◌, inl, inr, ℕ, ◌+◌, ◌*◌, ◌<◌, ◌≤◌, Bool, true, false, cond, List, length, get_or, Option, Some, None, arith}
 use Rattle.std.specs.Prelude.{◌==◌}
 use Rattle.std.proofs.lemmas.Bool.Decides.{eqb_tells}
+use Rattle.mdb_host.proofs.Whole.{same_length}
 use Rattle.mdb_model.specs.Images.{Image, bytes_of, size_of, byte_at}
 use Rattle.mdb_host.specs.Disk.{Outside, Torn, Has, IsWithin}
 use Rattle.mdb_host.proofs.Moments.{torn_twice}
@@ -14,7 +15,7 @@ use Rattle.gate_slots.specs.declared.body.SlotBody.{SlotBody}
 use Rattle.gate_slots.specs.declared.place.Slot.{Slot}
 use Rattle.gate_slots.specs.declared.place.Slot.TheVariants.{First, Second}
 use Rattle.gate_slots.specs.declared.place.SlotPlace.{SlotPlace}
-use Rattle.gate_slots.specs.Slots.{other_of, start_of, gate_in, body_in, body_of, slot_in}
+use Rattle.gate_slots.specs.Slots.{other_of, slot_start, gate_in, body_in, decoded_body, slot_in}
 use Rattle.gate_slots.specs.Steps.{SlotsTorn, KeepsOther}
 use Rattle.gate_slots.proofs.Bodies.{part_same, part_is}
 
@@ -23,55 +24,48 @@ length_of : (o : Option (List ℕ)) (n : ℕ) → size_of o ≡ Some n → lengt
 length_of None n is = absurd cc
 length_of (Some bytes) n is = cc
 
--- devices of one size have as many bytes
-same_length : (a b : Option (List ℕ)) → size_of a ≡ size_of b → length (bytes_of a) ≡ length (bytes_of b)
-same_length None None is = refl
-same_length None (Some bytes) is = absurd cc
-same_length (Some bytes) None is = absurd cc
-same_length (Some a) (Some b) is = cc
-
 -- both slots lie in their two pages
-pub start_low : (place : SlotPlace) (slot : Slot) → 8192 * place.page ≤ start_of place slot
+pub start_low : (place : SlotPlace) (slot : Slot) → 8192 * place.page ≤ slot_start place slot
 start_low place First = omega arith
 start_low place Second = omega arith
 
 -- and end in them
-pub start_high : (place : SlotPlace) (slot : Slot) → start_of place slot + 8192 ≤ 8192 * place.page + 16384
+pub start_high : (place : SlotPlace) (slot : Slot) → slot_start place slot + 8192 ≤ 8192 * place.page + 16384
 start_high place First = omega arith
 start_high place Second = omega arith
 
 -- and apart from each other
-slots_apart : (place : SlotPlace) (slot : Slot) → (start_of place slot + 8192 ≤ start_of place (other_of slot)) ⊎ (start_of place (other_of slot) + 8192 ≤ start_of place slot)
+slots_apart : (place : SlotPlace) (slot : Slot) → (slot_start place slot + 8192 ≤ slot_start place (other_of slot)) ⊎ (slot_start place (other_of slot) + 8192 ≤ slot_start place slot)
 slots_apart place First = inl (omega arith)
 slots_apart place Second = inr (omega arith)
 
 -- what a read of a slot gives
-pub body_read : (image : Image) (place : SlotPlace) (slot : Slot) (at : ℕ) (whole body : List ℕ) → IsWithin image place.device (8192 * place.page) 16384 → at ≡ start_of place slot
+pub body_read : (image : Image) (place : SlotPlace) (slot : Slot) (at : ℕ) (whole body : List ℕ) → IsWithin image place.device (8192 * place.page) 16384 → at ≡ slot_start place slot
     → slot_len ≤ length whole → length body ≡ slot_len → Has image place.device at whole → ((k d : ℕ) → k < slot_len → get_or body k d ≡ get_or whole k d) → body_in image place slot ≡ body
 unfolding body_in
 body_read image place slot at whole body within is long len has same =
     let held = bytes_of (image place.device) in
     let size : length held ≡ within.0 = length_of (image place.device) within.0 within.1 in
-    part_is slot_len (start_of place slot) held body len (omega (arith, start_high place slot, within.2, size))
+    part_is slot_len (slot_start place slot) held body len (omega (arith, start_high place slot, within.2, size))
     (λ k lt.
     let short : k < slot_len = omega (arith, lt, len) in
     ap (λ (n : ℕ). get_or held (n + k) 0) (sym is) ∙ has k (omega (arith, short, long)) ∙ sym (same k 0 short))
 
 -- a body that was written
-pub body_has : (image : Image) (place : SlotPlace) (slot : Slot) (at : ℕ) (body : List ℕ) → IsWithin image place.device (8192 * place.page) 16384 → at ≡ start_of place slot
+pub body_has : (image : Image) (place : SlotPlace) (slot : Slot) (at : ℕ) (body : List ℕ) → IsWithin image place.device (8192 * place.page) 16384 → at ≡ slot_start place slot
     → length body ≡ slot_len → Has image place.device at body → body_in image place slot ≡ body
 body_has image place slot at body within is len has = body_read image place slot at body body within is (omega (arith, len)) len has (λ k d lt. refl)
 
 -- a body whose bytes are the same
 pub body_same : (place : SlotPlace) (slot : Slot) (old new : Image) → size_of (new place.device) ≡ size_of (old place.device)
-    → ((k : ℕ) → start_of place slot ≤ k → k < start_of place slot + slot_len → byte_at (new place.device) k ≡ byte_at (old place.device) k)
+    → ((k : ℕ) → slot_start place slot ≤ k → k < slot_start place slot + slot_len → byte_at (new place.device) k ≡ byte_at (old place.device) k)
     → body_in new place slot ≡ body_in old place slot
 unfolding body_in
 body_same place slot old new size same =
-    part_same slot_len (start_of place slot) (bytes_of (new place.device)) (bytes_of (old place.device)) (same_length (new place.device) (old place.device) size) same
+    part_same slot_len (slot_start place slot) (bytes_of (new place.device)) (bytes_of (old place.device)) (same_length (new place.device) (old place.device) size) same
 
 -- a write in a slot is one in the two pages
-pub torn_slots : (place : SlotPlace) (slot : Slot) (at n : ℕ) (old new : Image) → start_of place slot ≤ at → at + n ≤ start_of place slot + 8192 → Torn place.device at n old new
+pub torn_slots : (place : SlotPlace) (slot : Slot) (at n : ℕ) (old new : Image) → slot_start place slot ≤ at → at + n ≤ slot_start place slot + 8192 → Torn place.device at n old new
     → SlotsTorn place old new
 torn_slots place slot at n old new from to torn = record {
   others = torn.others;
@@ -85,23 +79,23 @@ torn_slots place slot at n old new from to torn = record {
     narrower k (inr above) = inr (omega (arith, start_high place slot, to, above))
 
 -- and leaves the other slot
-pub torn_keeps : (place : SlotPlace) (slot : Slot) (at n : ℕ) (old new : Image) → start_of place slot ≤ at → at + n ≤ start_of place slot + 8192 → Torn place.device at n old new
+pub torn_keeps : (place : SlotPlace) (slot : Slot) (at n : ℕ) (old new : Image) → slot_start place slot ≤ at → at + n ≤ slot_start place slot + 8192 → Torn place.device at n old new
     → KeepsOther place slot old new
 torn_keeps place slot at n old new from to torn = record {
   torn = torn_slots place slot at n old new from to torn;
-  gate = same (start_of place (other_of slot) + slot_len) (omega arith) (omega arith);
+  gate = same (slot_start place (other_of slot) + slot_len) (omega arith) (omega arith);
   body = body_same place (other_of slot) old new torn.size (λ k low high. same k low (omega (arith, high)));
 }
   where
     -- the other slot is outside the write
-    beside : (k : ℕ) → start_of place (other_of slot) ≤ k → k < start_of place (other_of slot) + 8192 → Outside at n k
+    beside : (k : ℕ) → slot_start place (other_of slot) ≤ k → k < slot_start place (other_of slot) + 8192 → Outside at n k
     beside k low high = elim (slots_apart place slot) [
       | inl front ↦ inr (omega (arith, front, to, low))
       | inr behind ↦ inl (omega (arith, behind, from, high))
     ]
 
     -- so its bytes stay
-    same : (k : ℕ) → start_of place (other_of slot) ≤ k → k < start_of place (other_of slot) + 8192 → byte_at (new place.device) k ≡ byte_at (old place.device) k
+    same : (k : ℕ) → slot_start place (other_of slot) ≤ k → k < slot_start place (other_of slot) + 8192 → byte_at (new place.device) k ≡ byte_at (old place.device) k
     same k low high = torn.outside k (beside k low high)
 
 -- nothing was written
@@ -122,7 +116,7 @@ keeps_twice place slot a b c one two = record {
 
 -- the other slot holds what it held
 pub other_held : (place : SlotPlace) (slot : Slot) (a b : Image) → KeepsOther place slot a b → slot_in b place (other_of slot) ≡ slot_in a place (other_of slot)
-other_held place slot a b keeps = λ i. cond (keeps.gate i == open_gate) (body_of place.device (keeps.body i)) None
+other_held place slot a b keeps = λ i. cond (keeps.gate i == open_gate) (decoded_body place.device (keeps.body i)) None
 
 -- Gates
 
@@ -134,16 +128,16 @@ not_same a b apart = elim (eqb_tells a b) [
 ]
 
 -- an open slot holds what its body says
-pub slot_open : (image : Image) (place : SlotPlace) (slot : Slot) → gate_in image place slot ≡ open_gate → slot_in image place slot ≡ body_of place.device (body_in image place slot)
-slot_open image place slot is = ap (λ (n : ℕ). cond (n == open_gate) (body_of place.device (body_in image place slot)) None) is
+pub slot_open : (image : Image) (place : SlotPlace) (slot : Slot) → gate_in image place slot ≡ open_gate → slot_in image place slot ≡ decoded_body place.device (body_in image place slot)
+slot_open image place slot is = ap (λ (n : ℕ). cond (n == open_gate) (decoded_body place.device (body_in image place slot)) None) is
 
 -- a closed slot holds no record
 pub slot_shut : (image : Image) (place : SlotPlace) (slot : Slot) → gate_in image place slot ≢ open_gate → slot_in image place slot ≡ None
-slot_shut image place slot shut = ap (λ (b : Bool). cond b (body_of place.device (body_in image place slot)) None) (not_same (gate_in image place slot) open_gate shut)
+slot_shut image place slot shut = ap (λ (b : Bool). cond b (decoded_body place.device (body_in image place slot)) None) (not_same (gate_in image place slot) open_gate shut)
 
 -- a slot that counts is open
 pub counts_open : (image : Image) (place : SlotPlace) (slot : Slot) (body : SlotBody) → slot_in image place slot ≡ Some body
-    → (gate_in image place slot ≡ open_gate) × (body_of place.device (body_in image place slot) ≡ Some body)
+    → (gate_in image place slot ≡ open_gate) × (decoded_body place.device (body_in image place slot) ≡ Some body)
 counts_open image place slot body here = elim (eqb_tells (gate_in image place slot) open_gate) [
   | inl same ↦ (same.1, sym (slot_open image place slot same.1) ∙ here)
   | inr differ ↦ let none : None ≡ Some body = sym (slot_shut image place slot differ.1) ∙ here in absurd cc

@@ -1,18 +1,18 @@
--- Two slots of a page each: a body of 8,191 bytes, and a gate behind it.
+-- Two slots of a page each: a body of 8,191 bytes, and a gate after it.
 --     gate_in, body_in      the gate of a slot and the bytes of its body
 --     slot_in      the record that an open slot holds
 --     in_force      the record of the two that counts
 --     IsSlotPlace, IsFor, KeepsBody      what calls ask of a place and a record
 --     IsReady      one slot holds this record, and the other does not count beside it
 --     IsBlank      neither slot counts
---     IsFound      the numbers of slots that were read
+--     HasBody      the numbers of slots that were read
 use Rattle.std.specs.Prelude.{◌≡◌, ◌≢◌, ◌⊎◌, ℕ, ◌+◌, ◌*◌, ◌^◌, ◌<◌, ◌≤◌, List, take, drop, Bool, true, false, ◌==◌, nat_lt, if◌then◌else◌, Option, Some, None, option_map}
 use Rattle.mdb_model.specs.declared.fault.Device.{Device}
 use Rattle.mdb_model.specs.declared.fault.Device.TheVariants.{Data, Log, Medium}
 use Rattle.mdb_model.specs.Images.{Image, bytes_of, byte_at}
 use Rattle.mdb_bytes.specs.Fields.{decoded}
 use Rattle.mdb_bytes.specs.Groups.{open_gate}
-use Rattle.mdb_bytes.specs.Parts.{Keeps}
+use Rattle.mdb_bytes.specs.Parts.{KeepsLimits}
 use Rattle.mdb_bytes.specs.SlotRecords.{slot_len, log_info_format, restart_format}
 use Rattle.gate_slots.specs.declared.body.SlotBody.{SlotBody}
 use Rattle.gate_slots.specs.declared.body.SlotBody.TheVariants.{Restart, Log as LogBody}
@@ -27,24 +27,24 @@ other_of First = Second
 other_of Second = First
 
 -- the byte of the device at which a slot begins
-abbrev pub start_of : SlotPlace → Slot → ℕ
-start_of place First = 8192 * place.page
-start_of place Second = 8192 * (place.page + 1)
+abbrev pub slot_start : SlotPlace → Slot → ℕ
+slot_start place First = 8192 * place.page
+slot_start place Second = 8192 * (place.page + 1)
 
 -- the last byte of a slot
 abbrev pub gate_in : Image → SlotPlace → Slot → ℕ
-gate_in image place slot = byte_at (image place.device) (start_of place slot + slot_len)
+gate_in image place slot = byte_at (image place.device) (slot_start place slot + slot_len)
 
 -- the bytes in front of it
 unfoldable pub body_in : Image → SlotPlace → Slot → List ℕ
 body_in image place slot =
-    take slot_len (drop (start_of place slot) (bytes_of (image place.device)))
+    take slot_len (drop (slot_start place slot) (bytes_of (image place.device)))
 
 -- the record that the bytes of a body spell on a device, if there is one
-abbrev pub body_of : Device → List ℕ → Option SlotBody
-body_of (Data volume) bytes = option_map Restart (decoded restart_format bytes)
-body_of Log bytes = option_map LogBody (decoded log_info_format bytes)
-body_of (Medium medium) bytes = None
+abbrev pub decoded_body : Device → List ℕ → Option SlotBody
+decoded_body (Data volume) bytes = option_map Restart (decoded restart_format bytes)
+decoded_body Log bytes = option_map LogBody (decoded log_info_format bytes)
+decoded_body (Medium medium) bytes = None
 
 -- the number by which the greater record counts
 abbrev pub slot_number : SlotBody → ℕ
@@ -54,8 +54,8 @@ slot_number (LogBody info) = info.slot
 -- the record that a slot holds: none where its gate is closed, and where its body is no record
 abbrev pub slot_in : Image → SlotPlace → Slot → Option SlotBody
 slot_in image place slot =
-    if gate_in image place slot == open_gate then body_of place.device (body_in image place slot)
-    else None
+    if gate_in image place slot == open_gate then decoded_body place.device
+    (body_in image place slot) else None
 
 -- of two the one with the greater number, and the first where the numbers are equal
 abbrev pub greater : Option SlotBody → Option SlotBody → Option SlotBody
@@ -84,8 +84,8 @@ IsFor (Medium medium) body = ⊥
 
 -- the record keeps the limits of its format
 abbrev pub KeepsBody : SlotBody → Type 0
-KeepsBody (Restart restart) = Keeps restart_format restart
-KeepsBody (LogBody info) = Keeps log_info_format info
+KeepsBody (Restart restart) = KeepsLimits restart_format restart
+KeepsBody (LogBody info) = KeepsLimits log_info_format info
 
 -- the other slot does not count beside a record in this one
 abbrev pub Yields : Slot → SlotBody → Option SlotBody → Type 0
@@ -93,18 +93,22 @@ Yields slot body None = Unit {0}
 Yields First body (Some other) = slot_number other ≤ slot_number body
 Yields Second body (Some other) = slot_number other < slot_number body
 
--- the other slot may be written: its gate is closed, or it is told to be open and its body would
+-- the other slot may be written: its gate is closed, or it is known to be open and its body would
 -- not count
 abbrev pub Waits : (is_open : Bool) → Slots → SlotBody → Image → Type 0
 Waits true slots body image =
-    Yields slots.current body (body_of slots.place.device
+    Yields slots.current body (decoded_body slots.place.device
     (body_in image slots.place (other_of slots.current)))
 Waits false slots body image = gate_in image slots.place (other_of slots.current) ≢ open_gate
 
--- the current slot is open on this record, which is then in force
+-- The current slot is open on this record, which is then in force. The numbers are those of
+-- src/slots.rt.
 pub record IsReady (slots : Slots) (body : SlotBody) (image : Image) : Type 0 where
+  -- (1)
   pub number : slot_number body ≡ slots.number
+  -- (2)
   pub here : slot_in image slots.place slots.current ≡ Some body
+  -- (3)
   pub waits : Waits slots.other_open slots body image
 
 -- neither slot counts, and the gates are those that a read gives
@@ -113,8 +117,11 @@ pub record IsBlank (seen : Image) (place : SlotPlace) (image : Image) : Type 0 w
   pub gates : (slot : Slot) → gate_in image place slot ≡ gate_in seen place slot
 
 -- what is known of slots that were read, whatever the host tells
-pub record IsFound (at : SlotPlace) (slots : Slots) (body : SlotBody) : Type 0 where
+pub record HasBody (at : SlotPlace) (slots : Slots) (body : SlotBody) : Type 0 where
+  -- (4)
   pub place : slots.place ≡ at
+  -- (1)
   pub number : slots.number ≡ slot_number body
+  -- (5)
   pub kind : IsFor at.device body
   pub keeps : KeepsBody body

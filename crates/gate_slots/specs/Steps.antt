@@ -1,6 +1,6 @@
 -- What calls do to the images that a crash may leave.
 --     SlotsTorn      the two pages hold anything, all else is as before
---     Switches, Switched      a record is in force, or the next one; the next one is
+--     Switches, HasSwitched      a record is in force, or the next one; the next one is
 --     Begins, Begun      none is in force, or the first one; the first one is
 --     KeepsOther      what is written in one slot leaves the other
 --     Closes, Empties, Replaces, Replaced      the same of one slot
@@ -12,7 +12,7 @@ use Rattle.gate_slots.specs.declared.body.SlotBody.{SlotBody}
 use Rattle.gate_slots.specs.declared.place.Slot.{Slot}
 use Rattle.gate_slots.specs.declared.place.SlotPlace.{SlotPlace}
 use Rattle.gate_slots.specs.declared.slots.Slots.{Slots}
-use Rattle.gate_slots.specs.Slots.{other_of, gate_in, body_in, body_of, slot_in, in_force, IsReady, IsBlank}
+use Rattle.gate_slots.specs.Slots.{other_of, gate_in, body_in, decoded_body, slot_in, in_force, IsReady, IsBlank}
 
 -- the two pages hold anything, all else is as before
 abbrev pub SlotsTorn : SlotPlace → Image → Image → Type 0
@@ -25,7 +25,7 @@ pub record Switches (slots : Slots) (next : SlotBody) (old new : Image) : Type 0
       → (in_force new slots.place ≡ Some body) ⊎ (in_force new slots.place ≡ Some next)
 
 -- the next one is, as the slots say now
-pub record Switched (slots now : Slots) (next : SlotBody) (old new : Image) : Type 0 where
+pub record HasSwitched (slots now : Slots) (next : SlotBody) (old new : Image) : Type 0 where
   pub torn : SlotsTorn slots.place old new
   pub ready : (body : SlotBody) → IsReady slots body old → IsReady now next new
 
@@ -49,32 +49,32 @@ pub record KeepsOther (place : SlotPlace) (slot : Slot) (old new : Image) : Type
   pub gate : gate_in new place (other_of slot) ≡ gate_in old place (other_of slot)
   pub body : body_in new place (other_of slot) ≡ body_in old place (other_of slot)
 
--- the slot is closed where it is not told to be open
-abbrev pub IsTold : (is_open : Bool) → SlotPlace → Slot → Image → Type 0
-IsTold is_open place slot image = is_open ≡ false → gate_in image place slot ≢ open_gate
+-- the slot is closed where it is not known to be open
+abbrev pub IsGateKnown : (is_open : Bool) → SlotPlace → Slot → Image → Type 0
+IsGateKnown is_open place slot image = is_open ≡ false → gate_in image place slot ≢ open_gate
 
--- it does not count, or, where it was told to be open, holds what its body says
+-- it does not count, or, where it was known to be open, holds what its body says
 pub record Closes (place : SlotPlace) (slot : Slot) (is_open : Bool) (old new : Image)
     : Type 0 where
   pub keeps : KeepsOther place slot old new
-  pub this : IsTold is_open place slot old
+  pub this : IsGateKnown is_open place slot old
       → (slot_in new place slot ≡ None) ⊎ ((is_open ≡ true)
-      × (slot_in new place slot ≡ body_of place.device (body_in old place slot)))
+      × (slot_in new place slot ≡ decoded_body place.device (body_in old place slot)))
 
 -- its gate is closed
 pub record Empties (place : SlotPlace) (slot : Slot) (is_open : Bool) (old new : Image)
     : Type 0 where
   pub keeps : KeepsOther place slot old new
-  pub shut : IsTold is_open place slot old → gate_in new place slot ≢ open_gate
+  pub shut : IsGateKnown is_open place slot old → gate_in new place slot ≢ open_gate
 
 -- as one of the two, or it holds the next record
 pub record Replaces (place : SlotPlace) (slot : Slot) (is_open : Bool) (next : SlotBody)
     (old new : Image) : Type 0 where
   pub keeps : KeepsOther place slot old new
-  pub this : IsTold is_open place slot old
+  pub this : IsGateKnown is_open place slot old
       → (slot_in new place slot ≡ None) ⊎
       (((is_open ≡ true) × (slot_in new place slot
-      ≡ body_of place.device (body_in old place slot))) ⊎ (slot_in new place slot ≡ Some next))
+      ≡ decoded_body place.device (body_in old place slot))) ⊎ (slot_in new place slot ≡ Some next))
 
 -- it holds the next record
 pub record Replaced (place : SlotPlace) (slot : Slot) (next : SlotBody) (old new : Image)

@@ -2,7 +2,7 @@
 ghost use Rattle.std.specs.Prelude.{◌≡◌, length, Some, IfSome};
 ghost use Rattle.mdb_model.specs.declared.fault.Device.{Device};
 ghost use Rattle.mdb_bytes.specs.SlotRecords.{slot_len};
-ghost use Rattle.gate_slots.specs.Slots.{slot_number, body_of, KeepsBody, IsFor};
+ghost use Rattle.gate_slots.specs.Slots.{slot_number, decoded_body, KeepsBody, IsFor};
 
 use mdb_bytes::{
     LogInfo, RestartRecord, decode_log_info, decode_restart_record, encode_log_info,
@@ -33,7 +33,7 @@ impl SlotBody {
         requires exact { length into.old ≡ slot_len }
         requires keeps { KeepsBody self.now }
         ensures { (device : Device) → IsFor device self.now
-            → body_of device into.new ≡ Some self.now }
+            → decoded_body device into.new ≡ Some self.now }
     {
         match self {
             SlotBody::Restart(record) => encode_restart_record(record, into),
@@ -44,7 +44,7 @@ impl SlotBody {
 
 // The record of a slot of this device that the bytes spell.
 pub(crate) fn decode_body(device: Device, bytes: &[u8]) -> Option<SlotBody>
-    ensures value { result ≡ body_of device bytes.now }
+    ensures value { result ≡ decoded_body device bytes.now }
     ensures kept { IfSome result (λ body. IsFor device body × KeepsBody body) }
 {
     match device {

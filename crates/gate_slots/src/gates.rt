@@ -3,10 +3,11 @@ ghost use Rattle.std.specs.Prelude.{◌≡◌, ◌+◌, ◌*◌, ◌==◌, IfOk,
 ghost use Rattle.mdb_model.specs.Causes.{HasCause};
 ghost use Rattle.mdb_model.specs.Images.{Image};
 ghost use Rattle.mdb_host.specs.Disk.{Disk, Goes, Arrives, Agree, Torn, IsWithin};
+ghost use Rattle.mdb_host.specs.Reads.{ReadsOnly};
 ghost use Rattle.mdb_bytes.specs.Groups.{open_gate};
 ghost use Rattle.mdb_bytes.specs.SlotRecords.{slot_len};
 ghost use Rattle.gate_slots.specs.declared.place.Slot.TheVariants.{First, Second};
-ghost use Rattle.gate_slots.specs.Slots.{start_of, gate_in, body_in, body_of, IsSlotPlace, IsFor, KeepsBody};
+ghost use Rattle.gate_slots.specs.Slots.{slot_start, gate_in, body_in, decoded_body, IsSlotPlace, IsFor, KeepsBody};
 ghost use Rattle.gate_slots.specs.Choice.{IsPageOf, HasKept};
 ghost use Rattle.gate_slots.specs.Steps.{SlotsTorn, Closes, Empties, Replaces, Replaced};
 
@@ -26,12 +27,10 @@ fn read_gate<H: Host>(host: &mut H, place: SlotPlace, slot: Slot) -> Result<bool
     requires place { IsSlotPlace place }
     requires within { H.tells → IsWithin (H.disk host.old).seen place.device (8192 * place.page)
         16384 }
-    ensures calm { H.tells → Goes (H.disk host.old) (H.disk host.new) Agree }
-    ensures seen { H.tells → Agree (H.disk host.old).seen (H.disk host.new).seen }
+    ensures reads { ReadsOnly H.Host host.old host.new }
     ensures gate { IfOk result (λ is_open. H.tells
         → is_open ≡ (gate_in (H.disk host.old).seen place slot == open_gate)) }
     ensures cause { HasCause (H.faults host.old) (H.faults host.new) result }
-    ensures say_faults { H.say_faults host.new ≡ H.say_faults host.old }
 {
     let mut gate = [CLOSED_GATE];
     host.read(place.device, place.gate(slot), &mut gate)?;
@@ -43,14 +42,12 @@ pub(crate) fn read_gates<H: Host>(host: &mut H, place: SlotPlace) -> Result<(boo
     requires place { IsSlotPlace place }
     requires within { H.tells → IsWithin (H.disk host.old).seen place.device (8192 * place.page)
         16384 }
-    ensures calm { H.tells → Goes (H.disk host.old) (H.disk host.new) Agree }
-    ensures seen { H.tells → Agree (H.disk host.old).seen (H.disk host.new).seen }
+    ensures reads { ReadsOnly H.Host host.old host.new }
     ensures first { IfOk result (λ are_open. H.tells
         → are_open.0 ≡ (gate_in (H.disk host.old).seen place First == open_gate)) }
     ensures second { IfOk result (λ are_open. H.tells
         → are_open.1 ≡ (gate_in (H.disk host.old).seen place Second == open_gate)) }
     ensures cause { HasCause (H.faults host.old) (H.faults host.new) result }
-    ensures say_faults { H.say_faults host.new ≡ H.say_faults host.old }
 {
     let first = read_gate(host, place, Slot::First)?;
     let second = read_gate(host, place, Slot::Second)?;
@@ -66,12 +63,10 @@ pub(crate) fn read_slot<H: Host>(
     requires place { IsSlotPlace place }
     requires within { H.tells → IsWithin (H.disk host.old).seen place.device (8192 * place.page)
         16384 }
-    ensures calm { H.tells → Goes (H.disk host.old) (H.disk host.new) Agree }
-    ensures seen { H.tells → Agree (H.disk host.old).seen (H.disk host.new).seen }
+    ensures reads { ReadsOnly H.Host host.old host.new }
     ensures page { IfOk result (λ page. H.tells → IsPageOf (H.disk host.old).seen place slot page) }
     ensures kept { IfOk result (HasKept place.device) }
     ensures cause { HasCause (H.faults host.old) (H.faults host.new) result }
-    ensures say_faults { H.say_faults host.new ≡ H.say_faults host.old }
 {
     let mut page = [0u8; 8192];
     host.read(place.device, place.start(slot), &mut page)?;
@@ -90,8 +85,7 @@ pub(crate) fn read_slots<H: Host>(
     requires place { IsSlotPlace place }
     requires within { H.tells → IsWithin (H.disk host.old).seen place.device (8192 * place.page)
         16384 }
-    ensures calm { H.tells → Goes (H.disk host.old) (H.disk host.new) Agree }
-    ensures seen { H.tells → Agree (H.disk host.old).seen (H.disk host.new).seen }
+    ensures reads { ReadsOnly H.Host host.old host.new }
     ensures first { IfOk result (λ pages. H.tells
         → IsPageOf (H.disk host.old).seen place First pages.0) }
     ensures second { IfOk result (λ pages. H.tells
@@ -99,14 +93,13 @@ pub(crate) fn read_slots<H: Host>(
     ensures kept { IfOk result (λ pages. HasKept place.device pages.0
         × HasKept place.device pages.1) }
     ensures cause { HasCause (H.faults host.old) (H.faults host.new) result }
-    ensures say_faults { H.say_faults host.new ≡ H.say_faults host.old }
 {
     let first = read_slot(host, place, Slot::First)?;
     let second = read_slot(host, place, Slot::Second)?;
     Ok((first, second))
 }
 
-/// Closes the gate of a slot that is told to be open, and makes the device keep it.
+/// Closes the gate of a slot that is known to be open, and makes the device keep it.
 fn close_gate<H: Host>(
     host: &mut H,
     place: SlotPlace,
@@ -142,11 +135,11 @@ fn write_body<H: Host>(
     requires within { H.tells → IsWithin (H.disk host.old).seen place.device (8192 * place.page)
         16384 }
     ensures goes { H.tells → Goes (H.disk host.old) (H.disk host.new)
-        (Torn place.device (start_of place slot) slot_len) }
+        (Torn place.device (slot_start place slot) slot_len) }
     ensures seen { H.tells → SlotsTorn place (H.disk host.old).seen (H.disk host.new).seen }
     ensures kept { OnOk result (H.tells → (image : Image)
         → (H.disk host.new).may_leave (H.disk host.new).now image
-        → body_of place.device (body_in image place slot) ≡ Some body.now) }
+        → decoded_body place.device (body_in image place slot) ≡ Some body.now) }
     ensures cause { HasCause (H.faults host.old) (H.faults host.new) result }
     ensures say_faults { H.say_faults host.new ≡ H.say_faults host.old }
 {
@@ -161,7 +154,7 @@ fn open_slot<H: Host>(host: &mut H, place: SlotPlace, slot: Slot) -> Result<(), 
     requires within { H.tells → IsWithin (H.disk host.old).seen place.device (8192 * place.page)
         16384 }
     ensures goes { H.tells → Goes (H.disk host.old) (H.disk host.new)
-        (Torn place.device (start_of place slot + slot_len) 1) }
+        (Torn place.device (slot_start place slot + slot_len) 1) }
     ensures seen { H.tells → SlotsTorn place (H.disk host.old).seen (H.disk host.new).seen }
     ensures kept { OnOk result (H.tells → (image : Image)
         → (H.disk host.new).may_leave (H.disk host.new).now image

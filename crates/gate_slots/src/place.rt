@@ -1,6 +1,6 @@
 //! Where slots stand.
 ghost use Rattle.std.specs.Prelude.{◌≡◌, ◌+◌, ◌<◌, ◌^◌};
-ghost use Rattle.gate_slots.specs.Slots.{other_of, start_of};
+ghost use Rattle.gate_slots.specs.Slots.{other_of, slot_start};
 
 use mdb_model::fault::Device;
 
@@ -11,7 +11,7 @@ pub enum Slot {
     Second,
 }
 
-/// Where two slots stand: a page of a device, and the page behind it.
+/// Where two slots stand: a page of a device, and the page after it.
 #[derive(Clone, Copy, Debug, PartialEq, Eq)]
 pub struct SlotPlace {
     /// `Data(1)`, whose slots hold restart records, or `Log`, whose slots hold log infos.
@@ -36,7 +36,7 @@ impl SlotPlace {
     // The byte of the device at which a slot begins.
     pub(crate) fn start(self, slot: Slot) -> u64
         requires { self.page < 2 ^ 32 }
-        ensures { result ≡ start_of self slot }
+        ensures { result ≡ slot_start self slot }
     {
         match slot {
             Slot::First => 8192 * self.page,
@@ -47,7 +47,7 @@ impl SlotPlace {
     // The byte of its gate.
     pub(crate) fn gate(self, slot: Slot) -> u64
         requires { self.page < 2 ^ 32 }
-        ensures { result ≡ start_of self slot + 8191 }
+        ensures { result ≡ slot_start self slot + 8191 }
     {
         self.start(slot) + 8191
     }

@@ -1,10 +1,19 @@
-//! The slots of one record.
+//! The slots of one record. What holds of them between two calls that went well, in each image that
+//! a crash may leave once the device is synced (`IsReady`), and of what was read (`HasBody`):
+//!
+//! 1. The number that is kept is that of the record in force.
+//! 2. The gate of the current slot is open, and its body spells that record.
+//! 3. The other slot does not count beside it: its gate is closed, or its body is no record, or one
+//!    with a lower number, and in the second slot also with the same one. So it may be written
+//!    without harm to the record in force.
+//! 4. The slots stand at the place that was asked for.
+//! 5. The record is of the kind that the device has, and keeps the limits of its format.
 ghost use Rattle.std.specs.Prelude.{◌≡◌, ◌+◌, ◌*◌, ◌≤◌, true, Some, None, Err, IfOk, OnOk, OnErr};
 ghost use Rattle.mdb_model.specs.Causes.{HasCause, Rose};
 ghost use Rattle.mdb_model.specs.Images.{Image};
 ghost use Rattle.mdb_host.specs.Disk.{Disk, Goes, Arrives, Agree, Synced, IsWithin};
-ghost use Rattle.gate_slots.specs.Slots.{other_of, slot_number, in_force, IsReady, IsFound, IsSlotPlace, IsFor, KeepsBody};
-ghost use Rattle.gate_slots.specs.Steps.{SlotsTorn, Switches, Switched, Begins, Begun};
+ghost use Rattle.gate_slots.specs.Slots.{other_of, slot_number, in_force, IsReady, HasBody, IsSlotPlace, IsFor, KeepsBody};
+ghost use Rattle.gate_slots.specs.Steps.{SlotsTorn, Switches, HasSwitched, Begins, Begun};
 ghost use Rattle.gate_slots.specs.declared.place.Slot.TheVariants.{First};
 
 use crate::body::SlotBody;
@@ -14,7 +23,7 @@ use crate::gates::{read_gates, read_slots, replace};
 use crate::place::{Slot, SlotPlace};
 use mdb_host::{Failed, Host};
 
-/// Which of two slots is in force, and what is told of the other.
+/// Which of two slots is in force, and what is known of the other.
 #[derive(Clone, Copy, Debug, PartialEq, Eq)]
 pub struct Slots {
     pub place: SlotPlace,
@@ -33,6 +42,7 @@ impl Slots {
         requires place { IsSlotPlace place }
         requires within { H.tells → IsWithin (H.disk host.old).seen place.device (8192 * place.page)
             16384 }
+        // The result.
         ensures ready { IfOk result (λ found. H.tells
             → IsReady found.0 found.1 (H.disk host.old).seen) }
         ensures force { IfOk result (λ found. H.tells
@@ -40,11 +50,13 @@ impl Slots {
         ensures synced { IfOk result (λ found. H.tells → Synced (H.disk host.old) place.device
             → (image : Image) → (H.disk host.new).may_leave (H.disk host.new).now image
             → IsReady found.0 found.1 image) }
-        ensures found { IfOk result (λ found. IsFound place found.0 found.1) }
+        ensures found { IfOk result (λ found. HasBody place found.0 found.1) }
         ensures none { result ≡ Err SlotFault.NoSlot → H.tells
             → in_force (H.disk host.old).seen place ≡ None }
+        // The devices.
         ensures calm { H.tells → Goes (H.disk host.old) (H.disk host.new) Agree }
         ensures seen { H.tells → Agree (H.disk host.old).seen (H.disk host.new).seen }
+        // The faults.
         ensures later { H.faults host.old ≤ H.faults host.new }
         ensures cause { result ≡ Err SlotFault.Failed
             → Rose (H.faults host.old) (H.faults host.new) }
@@ -60,7 +72,7 @@ impl Slots {
     }
 
     /// Puts the first record in force, in the first slot: closes its gate where it is open, writes
-    /// the body, opens the gate, each with a sync behind it. The second slot is left as it is.
+    /// the body, opens the gate, each with a sync after it. The second slot is left as it is.
     /// After a fault of a device the record is in force or not, until the slots are read.
     pub fn first<H: Host>(host: &mut H, place: SlotPlace, body: &SlotBody) -> Result<Slots, Failed>
         requires place { IsSlotPlace place }
@@ -69,14 +81,18 @@ impl Slots {
         requires number { slot_number body.now ≡ 1 }
         requires within { H.tells → IsWithin (H.disk host.old).seen place.device (8192 * place.page)
             16384 }
+        // The devices.
         ensures any_moment { H.tells → Goes (H.disk host.old) (H.disk host.new)
             (Begins (H.disk host.old).seen place body.now) }
         ensures there { IfOk result (λ slots. H.tells
             → Arrives (H.disk host.old) (H.disk host.new)
             (Begun (H.disk host.old).seen slots body.now)) }
+        // The result.
         ensures slots { IfOk result (λ slots. (slots.place ≡ place) × (slots.number ≡ 1)
             × (slots.current ≡ First)) }
+        // The devices.
         ensures seen { H.tells → SlotsTorn place (H.disk host.old).seen (H.disk host.new).seen }
+        // The faults.
         ensures cause { HasCause (H.faults host.old) (H.faults host.new) result }
         ensures say_faults { H.say_faults host.new ≡ H.say_faults host.old }
     {
@@ -91,7 +107,7 @@ impl Slots {
     }
 
     /// Puts the next record in force, in the slot that is not: closes its gate where it is open,
-    /// writes the body, opens the gate, each with a sync behind it. After a fault of a device the
+    /// writes the body, opens the gate, each with a sync after it. After a fault of a device the
     /// record that was in force still is, or the next one, until the slots are read; this value
     /// then is as it was, and no longer tells of them.
     pub fn switch<H: Host>(&mut self, host: &mut H, body: &SlotBody) -> Result<(), Failed>
@@ -101,10 +117,12 @@ impl Slots {
         requires number { slot_number body.now ≡ self.old.number + 1 }
         requires within { H.tells → IsWithin (H.disk host.old).seen self.old.place.device
             (8192 * self.old.place.page) 16384 }
+        // The devices.
         ensures any_moment { H.tells → Goes (H.disk host.old) (H.disk host.new)
             (Switches self.old body.now) }
         ensures there { OnOk result (H.tells
-            → Arrives (H.disk host.old) (H.disk host.new) (Switched self.old self.new body.now)) }
+            → Arrives (H.disk host.old) (H.disk host.new) (HasSwitched self.old self.new body.now)) }
+        // The result.
         ensures ok { OnOk result (self.new
             ≡ record self.old {
               number = self.old.number
@@ -113,8 +131,10 @@ impl Slots {
               other_open = true;
             }) }
         ensures err { OnErr result (self.new ≡ self.old) }
+        // The devices.
         ensures seen { H.tells → SlotsTorn self.old.place (H.disk host.old).seen
             (H.disk host.new).seen }
+        // The faults.
         ensures cause { HasCause (H.faults host.old) (H.faults host.new) result }
         ensures say_faults { H.say_faults host.new ≡ H.say_faults host.old }
     {

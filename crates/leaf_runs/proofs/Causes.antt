@@ -1,6 +1,6 @@
 -- When a call may fail.
 --     cause_through      a fault that is passed on has a cause
---     on_ok, on_both, if_ok      what holds of an answer
+--     on_ok, if_ok      what holds of an answer
 use Rattle.std.proofs.Common.{◌≡◌, sym, ◌∙◌, ℕ, ◌≤◌, Result, Ok, Err, arith}
 use Rattle.std.specs.Prelude.{IsErrAnd, IfOk, OnOk}
 use Rattle.mdb_model.specs.Causes.{Rose}
@@ -32,7 +32,3 @@ on_ok P Q (Err e) f h = tt
 pub if_ok : {A E : Type 0} (P Q : A → Type 0) (r : Result A E) → ((a : A) → P a → Q a) → IfOk r P → IfOk r Q
 if_ok P Q (Ok a) f h = f a h
 if_ok P Q (Err e) f h = tt
-
-pub on_both : {A E : Type 0} (P Q R : Type 0) (r : Result A E) → (P → Q → R) → OnOk r P → OnOk r Q → OnOk r R
-on_both P Q R (Ok a) f p q = f p q
-on_both P Q R (Err e) f p q = tt

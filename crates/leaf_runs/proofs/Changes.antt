@@ -26,9 +26,9 @@ use Rattle.mdb_bytes.specs.Paged.{PageBytes}
 use Rattle.mdb_bytes.proofs.Decoding.{and_left, and_right, and_both, decoded-spells}
 use Rattle.mdb_bytes.proofs.NextRow.{place_total, place_exact}
 use Rattle.mdb_bytes.proofs.ReadBack.{byte_in}
-use Rattle.leaf_runs.specs.Leaves.{by_bytes}
+use Rattle.row_page.specs.Entries.{by_bytes}
 use Rattle.leaf_runs.specs.Edits.{without}
-use Rattle.leaf_runs.specs.Runs.{Leaf, run_rows, leaf_at, leaf_value, catalogue_at, first_page, LeafStands, IsChain, IsTableRun, AreRuns, HasEntry, rows_of}
+use Rattle.leaf_runs.specs.Runs.{Leaf, run_rows, leaf_at, leaf_value, catalogue_at, first_page, LeafStands, IsChain, IsTableRun, AreRuns, HasEntry, rows_in_pages}
 use Rattle.leaf_runs.specs.Loose.{IsFreeOrOf, LeavesOthers}
 use Rattle.leaf_runs.specs.Changed.{with_entry, SetsEntry, IsNewRun}
 use Rattle.leaf_runs.proofs.RowLists.{turned}
@@ -39,7 +39,7 @@ use Rattle.leaf_runs.proofs.EntryWrites.{set_here, set_there}
 use Rattle.leaf_runs.proofs.NewRuns.{run_small}
 
 -- no bytes spell both a leaf and the catalogue
-kinds_differ : (bytes : List ℕ) (leaf : RowLeaf) (catalogue : Catalogue) → row_leaf_of bytes ≡ Some leaf → catalogue_of bytes ≡ Some catalogue → ⊥
+pub kinds_differ : (bytes : List ℕ) (leaf : RowLeaf) (catalogue : Catalogue) → row_leaf_of bytes ≡ Some leaf → catalogue_of bytes ≡ Some catalogue → ⊥
 unfolding row_leaf_of catalogue_of
 kinds_differ bytes leaf catalogue p q =
     let s = decoded-spells (row_leaf_format longest_value) bytes leaf p in
@@ -225,14 +225,14 @@ module _ (pages pages1 : PageBytes) (r : AreRuns pages) (table : ℕ) (low : 1 �
 
     -- Rows
 
-    rows_here : (k : List ℕ) → get (rows_of pages2) (table, k) ≡ find by_bytes k rows2
+    rows_here : (k : List ℕ) → get (rows_in_pages pages2) (table, k) ≡ find by_bytes k rows2
     unfolding new_runs
     rows_here k = row_there pages2 new_runs table k low high ∙ ap (find by_bytes k) (ap run_rows (runs_here table refl) ∙ new.rows_are)
 
-    rows_there : (t : ℕ) (k : List ℕ) → (t ≡ table → ⊥) → get (rows_of pages2) (t, k) ≡ get (rows_of pages) (t, k)
+    rows_there : (t : ℕ) (k : List ℕ) → (t ≡ table → ⊥) → get (rows_in_pages pages2) (t, k) ≡ get (rows_in_pages pages) (t, k)
     unfolding new_runs
     rows_there t k apart = by_test (nat_le 1 t && nat_le t 500) refl where
-      by_test : (b : Bool) → (nat_le 1 t && nat_le t 500) ≡ b → get (rows_of pages2) (t, k) ≡ get (rows_of pages) (t, k)
+      by_test : (b : Bool) → (nat_le 1 t && nat_le t 500) ≡ b → get (rows_in_pages pages2) (t, k) ≡ get (rows_in_pages pages) (t, k)
       by_test true e =
           let t_low = leb-true 1 t (and_left (nat_le 1 t) _ e) in
           let t_high = leb-true t 500 (and_right (nat_le 1 t) _ e) in
@@ -241,29 +241,29 @@ module _ (pages pages1 : PageBytes) (r : AreRuns pages) (table : ℕ) (low : 1 �
           let outside : (1 ≤ t) × (t ≤ 500) → ⊥ = λ l. (let yes : (nat_le 1 t && nat_le t 500) ≡ true = and_both (nat_le 1 t) (nat_le t 500) (le-leb 1 t l.0) (le-leb t 500 l.1) in let wrong : false ≡ true = sym e ∙ yes in cc) in
           no_other_rows pages2 runs2 (chains_of pages2 new_runs) t k outside ∙ sym (no_other_rows pages r.runs (chains_of pages r) t k outside)
 
-    pub put_map : (key value : List ℕ) → rows2 ≡ put by_bytes key value (run_rows (r.runs table)) → rows_of pages2 ≡ insert (rows_of pages) (table, key) value
-    put_map key value is = same_map place_total place_exact (rows_of pages2) (insert (rows_of pages) (table, key) value) (λ q. by_table q (eqb q.0 table) refl ∙ sym (get-insert place_total (rows_of pages) (table, key) value q)) where
-      by_table : (q : Place) (b : Bool) → eqb q.0 table ≡ b → get (rows_of pages2) q ≡ cond (eq_by_cmp place_cmp q (table, key)) (Some value) (get (rows_of pages) q)
+    pub put_map : (key value : List ℕ) → rows2 ≡ put by_bytes key value (run_rows (r.runs table)) → rows_in_pages pages2 ≡ insert (rows_in_pages pages) (table, key) value
+    put_map key value is = same_map place_total place_exact (rows_in_pages pages2) (insert (rows_in_pages pages) (table, key) value) (λ q. by_table q (eqb q.0 table) refl ∙ sym (get-insert place_total (rows_in_pages pages) (table, key) value q)) where
+      by_table : (q : Place) (b : Bool) → eqb q.0 table ≡ b → get (rows_in_pages pages2) q ≡ cond (eq_by_cmp place_cmp q (table, key)) (Some value) (get (rows_in_pages pages) q)
       by_table q true e =
           let same : q.0 ≡ table = eqb-true q.0 table e in
-          ap (λ (t : ℕ). get (rows_of pages2) (t, q.1)) same ∙ rows_here q.1 ∙ ap (find by_bytes q.1) is ∙ find-put by_bytes nat_list_cmp_total q.1 key value (run_rows (r.runs table))
+          ap (λ (t : ℕ). get (rows_in_pages pages2) (t, q.1)) same ∙ rows_here q.1 ∙ ap (find by_bytes q.1) is ∙ find-put by_bytes nat_list_cmp_total q.1 key value (run_rows (r.runs table))
           ∙ (λ i. cond (sym (tied_place q table key same) i) (Some value) (sym (row_there pages r table q.1 low high) i))
-          ∙ ap (λ (t : ℕ). cond (eq_by_cmp place_cmp q (table, key)) (Some value) (get (rows_of pages) (t, q.1))) (sym same)
+          ∙ ap (λ (t : ℕ). cond (eq_by_cmp place_cmp q (table, key)) (Some value) (get (rows_in_pages pages) (t, q.1))) (sym same)
       by_table q false e =
           let apart : q.0 ≡ table → ⊥ = eqb-false q.0 table e in
-          rows_there q.0 q.1 apart ∙ ap (λ (b : Bool). cond b (Some value) (get (rows_of pages) q)) (sym (apart_place q table key apart))
+          rows_there q.0 q.1 apart ∙ ap (λ (b : Bool). cond b (Some value) (get (rows_in_pages pages) q)) (sym (apart_place q table key apart))
 
-    pub removed_map : (key : List ℕ) → rows2 ≡ without key (run_rows (r.runs table)) → rows_of pages2 ≡ remove (rows_of pages) (table, key)
-    removed_map key is = same_map place_total place_exact (rows_of pages2) (remove (rows_of pages) (table, key)) (λ q. by_table q (eqb q.0 table) refl ∙ sym (get-remove place_total (rows_of pages) (table, key) q)) where
-      by_table : (q : Place) (b : Bool) → eqb q.0 table ≡ b → get (rows_of pages2) q ≡ cond (eq_by_cmp place_cmp q (table, key)) None (get (rows_of pages) q)
+    pub removed_map : (key : List ℕ) → rows2 ≡ without key (run_rows (r.runs table)) → rows_in_pages pages2 ≡ remove (rows_in_pages pages) (table, key)
+    removed_map key is = same_map place_total place_exact (rows_in_pages pages2) (remove (rows_in_pages pages) (table, key)) (λ q. by_table q (eqb q.0 table) refl ∙ sym (get-remove place_total (rows_in_pages pages) (table, key) q)) where
+      by_table : (q : Place) (b : Bool) → eqb q.0 table ≡ b → get (rows_in_pages pages2) q ≡ cond (eq_by_cmp place_cmp q (table, key)) None (get (rows_in_pages pages) q)
       by_table q true e =
           let same : q.0 ≡ table = eqb-true q.0 table e in
-          ap (λ (t : ℕ). get (rows_of pages2) (t, q.1)) same ∙ rows_here q.1 ∙ ap (find by_bytes q.1) is ∙ find_without key q.1 (run_rows (r.runs table))
+          ap (λ (t : ℕ). get (rows_in_pages pages2) (t, q.1)) same ∙ rows_here q.1 ∙ ap (find by_bytes q.1) is ∙ find_without key q.1 (run_rows (r.runs table))
           ∙ (λ i. cond (sym (tied_place q table key same) i) None (sym (row_there pages r table q.1 low high) i))
-          ∙ ap (λ (t : ℕ). cond (eq_by_cmp place_cmp q (table, key)) None (get (rows_of pages) (t, q.1))) (sym same)
+          ∙ ap (λ (t : ℕ). cond (eq_by_cmp place_cmp q (table, key)) None (get (rows_in_pages pages) (t, q.1))) (sym same)
       by_table q false e =
           let apart : q.0 ≡ table → ⊥ = eqb-false q.0 table e in
-          rows_there q.0 q.1 apart ∙ ap (λ (b : Bool). cond b None (get (rows_of pages) q)) (sym (apart_place q table key apart))
+          rows_there q.0 q.1 apart ∙ ap (λ (b : Bool). cond b None (get (rows_in_pages pages) q)) (sym (apart_place q table key apart))
 
 -- Nothing changed
 
@@ -273,8 +273,8 @@ others_same pages pages2 table same = record {
   entries = λ other entry one apart has. subst (λ (p : PageBytes). HasEntry p other entry) (sym same) has;
 }
 
-pub removed_absent : (pages pages2 : PageBytes) (table : ℕ) (key : List ℕ) → pages2 ≡ pages → get (rows_of pages) (table, key) ≡ None → rows_of pages2 ≡ remove (rows_of pages) (table, key)
-removed_absent pages pages2 table key same none = ap rows_of same ∙ sym (remove-absent (rows_of pages) (table, key) none)
+pub removed_absent : (pages pages2 : PageBytes) (table : ℕ) (key : List ℕ) → pages2 ≡ pages → get (rows_in_pages pages) (table, key) ≡ None → rows_in_pages pages2 ≡ remove (rows_in_pages pages) (table, key)
+removed_absent pages pages2 table key same none = ap rows_in_pages same ∙ sym (remove-absent (rows_in_pages pages) (table, key) none)
 
 pub runs_same : (pages pages2 : PageBytes) → pages2 ≡ pages → AreRuns pages → AreRuns pages2
 runs_same pages pages2 same r = subst AreRuns (sym same) r

@@ -10,7 +10,7 @@ use Rattle.std.specs.FinMap.{get, insert}
 use Rattle.mdb_bytes.specs.declared.logical_pages.CatalogueEntry.{CatalogueEntry}
 use Rattle.mdb_bytes.specs.declared.logical_pages.Catalogue.{Catalogue}
 use Rattle.mdb_bytes.specs.Fields.{Field, Spells, fields_fit}
-use Rattle.mdb_bytes.specs.Parts.{Keeps, page_room}
+use Rattle.mdb_bytes.specs.Parts.{KeepsLimits, page_room}
 use Rattle.mdb_bytes.specs.LogicalPages.{header_fields, catalogue_entry_fields, catalogue_fields, catalogue_fits, catalogue_format}
 use Rattle.mdb_bytes.specs.PageReadings.{catalogue_of}
 use Rattle.mdb_bytes.specs.Paged.{PageBytes}
@@ -60,7 +60,7 @@ entry_keeps entry root pages cost =
     (and_both (nat_lt entry.cost (2 ^ 62)) true (lt-ltb entry.cost (2 ^ 62) cost) refl))
 
 -- the catalogue with another entry keeps its limits
-pub entry_kept : (catalogue : Catalogue) (table : ℕ) (entry : CatalogueEntry) → Keeps catalogue_format catalogue → entry.root < 2 ^ 32 → entry.pages < 2 ^ 32 → entry.cost < 2 ^ 62 → Keeps catalogue_format (with_entry catalogue table entry)
+pub entry_kept : (catalogue : Catalogue) (table : ℕ) (entry : CatalogueEntry) → KeepsLimits catalogue_format catalogue → entry.root < 2 ^ 32 → entry.pages < 2 ^ 32 → entry.cost < 2 ^ 62 → KeepsLimits catalogue_format (with_entry catalogue table entry)
 entry_kept catalogue table entry kept root pages cost =
     let es = catalogue.entries in
     let set = slice_set es (table - 1) entry in
@@ -71,7 +71,7 @@ entry_kept catalogue table entry kept root pages cost =
     and_both (catalogue_fits (with_entry catalogue table entry)) (fields_fit (catalogue_fields (with_entry catalogue table entry))) (eq-eqb (length set) 500 len)
     (room-section catalogue_entry_fields 16 page_room catalogue_front set ∙ and_both (fields_fit catalogue_front) (list_all entry_fits set) front_fits fits_set)
   where
-    catalogue_len_of : (catalogue : Catalogue) → Keeps catalogue_format catalogue → length catalogue.entries ≡ 500
+    catalogue_len_of : (catalogue : Catalogue) → KeepsLimits catalogue_format catalogue → length catalogue.entries ≡ 500
     catalogue_len_of catalogue kept = catalogue_len _ catalogue (kept, refl)
 
 pub entry_set : (table : ℕ) (entry : CatalogueEntry) (old new : List ℕ) (catalogue : Catalogue) → Spells catalogue_format catalogue old → Spells catalogue_format (with_entry catalogue table entry) new → IsEntrySet true table entry old new

@@ -9,7 +9,7 @@ use Rattle.std.specs.declared.cmp.Ordering.TheVariants.{Less, Greater}
 use Rattle.std.specs.Ordering.{is_gt}
 use Rattle.std.proofs.lemmas.Bool.{leb-true}
 use Rattle.mdb_model.specs.Script.{is_table}
-use Rattle.mdb_bytes.specs.Held.{IsRow, next_row, IsNextRow}
+use Rattle.mdb_bytes.specs.Held.{IsFoundRow, next_row, IsNextRow}
 use Rattle.std.specs.FinMap.{get, find}
 use Rattle.std.specs.FinMap.Entries.{below_all}
 use Rattle.mdb_bytes.specs.declared.logical_pages.CatalogueEntry.{CatalogueEntry}
@@ -19,11 +19,11 @@ use Rattle.mdb_bytes.specs.TablePages.{Row, RowLeaf}
 use Rattle.mdb_bytes.specs.PageReadings.{catalogue_of}
 use Rattle.mdb_bytes.specs.Paged.{PageBytes}
 use Rattle.mdb_bytes.proofs.Decoding.{decoded-spells, and_left, and_right}
+use Rattle.row_page.specs.Entries.{by_bytes}
 use Rattle.sorted_places.specs.First.{IsFirst}
 use Rattle.sorted_places.proofs.NextRow.{next_of_first}
-use Rattle.leaf_runs.specs.Leaves.{by_bytes}
-use Rattle.leaf_runs.specs.Behind.{not_behind, IsBehind}
-use Rattle.leaf_runs.specs.Runs.{Leaf, run_rows, first_page, leaf_at, leaf_value, catalogue_at, LeafStands, IsChain, IsTableRun, AreRuns, HasEntry, HasRunLeaf, HasTwoLeaves, IsScanned, IsSpot, rows_of}
+use Rattle.leaf_runs.specs.Behind.{not_behind, IsFirstAfter}
+use Rattle.leaf_runs.specs.Runs.{Leaf, run_rows, first_page, leaf_at, leaf_value, catalogue_at, LeafStands, IsChain, IsTableRun, AreRuns, HasEntry, HasRunLeaf, HasTwoLeaves, IsRowScanned, IsSpot, rows_in_pages}
 use Rattle.leaf_runs.proofs.RowLists.{find-front, find-back, t_left, is_less, turned, from_true, to_true, below_both, below_right}
 use Rattle.leaf_runs.proofs.Scans.{first_in, none_in, behind_both, from_lower}
 use Rattle.leaf_runs.proofs.Chains.{run_rows-append, chain_right}
@@ -87,14 +87,14 @@ module _ (pages : PageBytes) (table : ℕ) (entry : CatalogueEntry) where
           ∙ sym (ap (find by_bytes key) spot_parts ∙ find-front key (run_rows spot.front) (spot.here.rows ++ run_rows spot.back) spot.lower ∙ find-back key spot.here.rows (run_rows spot.back) spot.higher)
 
 -- what a table has at a key
-pub row_there : (pages : PageBytes) (r : AreRuns pages) (table : ℕ) (key : List ℕ) → 1 ≤ table → table ≤ 500 → get (rows_of pages) (table, key) ≡ find by_bytes key (run_rows (r.runs table))
+pub row_there : (pages : PageBytes) (r : AreRuns pages) (table : ℕ) (key : List ℕ) → 1 ≤ table → table ≤ 500 → get (rows_in_pages pages) (table, key) ≡ find by_bytes key (run_rows (r.runs table))
 row_there pages r table key low high = row_law pages r.runs (chains_of pages r) table key low high
 
 pub table_limits : (n : ℕ) → IsTrue (is_table n) → (1 ≤ n) × (n ≤ 500)
 table_limits n t = (leb-true 1 n (and_left (nat_le 1 n) _ t), leb-true n 500 (and_right (nat_le 1 n) _ t))
 
-pub row_as : (found : Bool) (a b : Option (List ℕ)) (items : List ℕ) → a ≡ b → IsRow found a items → IsRow found b items
-row_as found a b items same is = subst (λ (o : Option (List ℕ)). IsRow found o items) same is
+pub row_as : (found : Bool) (a b : Option (List ℕ)) (items : List ℕ) → a ≡ b → IsFoundRow found a items → IsFoundRow found b items
+row_as found a b items same is = subst (λ (o : Option (List ℕ)). IsFoundRow found o items) same is
 
 pub run_on : (pages pages2 : PageBytes) (table : ℕ) (entry : CatalogueEntry) (leaves : List Leaf) → pages2 ≡ pages → IsTableRun pages table entry leaves → IsTableRun pages2 table entry leaves
 run_on pages pages2 table entry leaves same run = subst (λ (p : PageBytes). IsTableRun p table entry leaves) (sym same) run
@@ -144,7 +144,7 @@ module _ (pages : PageBytes) (table : ℕ) (entry : CatalogueEntry) (leaves : Li
     by_back (l ∷ ls) c same = subst (HasRunLeaf pages table) (sym same) (run_leaf_there pages table (first_page ls) l c.0)
 
   -- what was scanned is the first row of the table after the key
-  pub scan_first : (found : Bool) (key value_of_key : List ℕ) → IsScanned pages page after found key value_of_key → IsFirst (λ k. find by_bytes k (run_rows leaves)) after found key value_of_key
+  pub scan_first : (found : Bool) (key value_of_key : List ℕ) → IsRowScanned pages page after found key value_of_key → IsFirst (λ k. find by_bytes k (run_rows leaves)) after found key value_of_key
   scan_first found key v s = by_case s.scanned where
     same : s.leaf ≡ leaf_value table spot.here (first_page spot.back)
     same = value s.leaf s.there
@@ -152,7 +152,7 @@ module _ (pages : PageBytes) (table : ℕ) (entry : CatalogueEntry) (leaves : Li
     rows : s.leaf.rows ≡ spot.here.rows
     rows = ap (λ (v : RowLeaf). v.rows) same
 
-    here_found : IsBehind true s.leaf.rows after key v → IsFirst (λ k. find by_bytes k (run_rows leaves)) after true key v
+    here_found : IsFirstAfter true s.leaf.rows after key v → IsFirst (λ k. find by_bytes k (run_rows leaves)) after true key v
     here_found b =
         first_in (run_rows leaves) (rf ++ b.0) (b.1 ++ rb) after key v
         (parts ∙ ap (λ (t : List Row). rf ++ (t ++ rb)) (sym rows ∙ b.2) ∙ ap (λ (t : List Row). rf ++ t) (append_assoc b.0 ((key, v) ∷ b.1) rb) ∙ sym (append_assoc rf b.0 ((key, v) ∷ (b.1 ++ rb))))
@@ -166,7 +166,7 @@ module _ (pages : PageBytes) (table : ℕ) (entry : CatalogueEntry) (leaves : Li
         (behind_both after spot.here.rows rb (subst (λ (t : List Row). not_behind after t ≡ true) rows low) (subst (λ (t : List Row). not_behind after t ≡ true) (sym empty) refl)) in
         none_in (run_rows leaves) after key v (subst (λ (t : List Row). not_behind after t ≡ true) (sym parts) all)
 
-    next_one : not_behind after s.leaf.rows ≡ true → (s.leaf.next ≡ 0 → ⊥) → (next : RowLeaf) → leaf_at pages s.leaf.next ≡ Some next → IsBehind found next.rows after key v
+    next_one : not_behind after s.leaf.rows ≡ true → (s.leaf.next ≡ 0 → ⊥) → (next : RowLeaf) → leaf_at pages s.leaf.next ≡ Some next → IsFirstAfter found next.rows after key v
         → (back : List Leaf) → spot.back ≡ back → IsChain pages table back → T (below_all by_bytes after (run_rows back)) → IsFirst (λ k. find by_bytes k (run_rows leaves)) after found key v
     next_one low more next there b [] is c high = absurd (more (ap (λ (v : RowLeaf). v.next) same ∙ ap first_page is))
     next_one low more next there b (l ∷ ls) is c high = by_found found b where
@@ -179,7 +179,7 @@ module _ (pages : PageBytes) (table : ℕ) (entry : CatalogueEntry) (leaves : Li
       low_here : not_behind after spot.here.rows ≡ true
       low_here = subst (λ (t : List Row). not_behind after t ≡ true) rows low
 
-      by_found : (found : Bool) → IsBehind found next.rows after key v → IsFirst (λ k. find by_bytes k (run_rows leaves)) after found key v
+      by_found : (found : Bool) → IsFirstAfter found next.rows after key v → IsFirst (λ k. find by_bytes k (run_rows leaves)) after found key v
       by_found false none = absurd (not_all after l.rows (run_rows ls) c.0.has_rows high (subst (λ (t : List Row). not_behind after t ≡ true) next_rows none))
       by_found true b =
           first_in (run_rows leaves) (rf ++ (spot.here.rows ++ b.0)) (b.1 ++ run_rows ls) after key v
@@ -191,9 +191,9 @@ module _ (pages : PageBytes) (table : ℕ) (entry : CatalogueEntry) (leaves : Li
           run.in_order (behind_both after rf (spot.here.rows ++ b.0) front_low (behind_both after spot.here.rows b.0 low_here b.3))
           (below_both after ((key, v) ∷ b.1) (run_rows ls) b.4 (below_right after l.rows (run_rows ls) high))
 
-    by_case : ((found ≡ true) × IsBehind true s.leaf.rows after key v)
+    by_case : ((found ≡ true) × IsFirstAfter true s.leaf.rows after key v)
         ⊎ ((not_behind after s.leaf.rows ≡ true) × (((found ≡ false) × (s.leaf.next ≡ 0))
-        ⊎ ((s.leaf.next ≡ 0 → ⊥) × ((next : RowLeaf) × (leaf_at pages s.leaf.next ≡ Some next) × IsBehind found next.rows after key v))))
+        ⊎ ((s.leaf.next ≡ 0 → ⊥) × ((next : RowLeaf) × (leaf_at pages s.leaf.next ≡ Some next) × IsFirstAfter found next.rows after key v))))
         → IsFirst (λ k. find by_bytes k (run_rows leaves)) after found key v
     by_case (inl f) = subst (λ (b : Bool). IsFirst (λ k. find by_bytes k (run_rows leaves)) after b key v) (sym f.0) (here_found f.1)
     by_case (inr (low, inl e)) = subst (λ (b : Bool). IsFirst (λ k. find by_bytes k (run_rows leaves)) after b key v) (sym e.0) (at_end low e.1)
@@ -201,14 +201,14 @@ module _ (pages : PageBytes) (table : ℕ) (entry : CatalogueEntry) (leaves : Li
 
 -- the first row of a table, said of all rows
 pub first_of_all : (pages : PageBytes) (r : AreRuns pages) (table : ℕ) (after : List ℕ) (found : Bool) (key value : List ℕ) → 1 ≤ table → table ≤ 500
-    → IsFirst (λ k. find by_bytes k (run_rows (r.runs table))) after found key value → IsNextRow found (next_row (rows_of pages) table after) key value
-first_of_all pages r table after found key value low high is = next_of_first (rows_of pages) table after found key value (by_found found is) where
-  by_found : (found : Bool) → IsFirst (λ k. find by_bytes k (run_rows (r.runs table))) after found key value → IsFirst (λ k. get (rows_of pages) (table, k)) after found key value
+    → IsFirst (λ k. find by_bytes k (run_rows (r.runs table))) after found key value → IsNextRow found (next_row (rows_in_pages pages) table after) key value
+first_of_all pages r table after found key value low high is = next_of_first (rows_in_pages pages) table after found key value (by_found found is) where
+  by_found : (found : Bool) → IsFirst (λ k. find by_bytes k (run_rows (r.runs table))) after found key value → IsFirst (λ k. get (rows_in_pages pages) (table, k)) after found key value
   by_found true is = (is.0, row_there pages r table key low high ∙ is.1, λ k more less. row_there pages r table k low high ∙ is.2 k more less)
   by_found false is = λ k more. row_there pages r table k low high ∙ is k more
 
-pub scanned_on : (pages pages2 : PageBytes) (page : ℕ) (after : List ℕ) (found : Bool) (key value : List ℕ) → pages2 ≡ pages → IsScanned pages2 page after found key value → IsScanned pages page after found key value
-scanned_on pages pages2 page after found key value same h = subst (λ (p : PageBytes). IsScanned p page after found key value) same h
+pub scanned_on : (pages pages2 : PageBytes) (page : ℕ) (after : List ℕ) (found : Bool) (key value : List ℕ) → pages2 ≡ pages → IsRowScanned pages2 page after found key value → IsRowScanned pages page after found key value
+scanned_on pages pages2 page after found key value same h = subst (λ (p : PageBytes). IsRowScanned p page after found key value) same h
 
 pub two_leaves : (pages pages2 : PageBytes) (table : ℕ) (entry : CatalogueEntry) (leaves : List Leaf) (run : IsTableRun pages table entry leaves) (after : List ℕ) (before : Option ℕ) (page : ℕ) (spot : IsSpot leaves after before page) → pages2 ≡ pages
     → HasTwoLeaves pages2 table page

@@ -19,8 +19,8 @@ use Rattle.mdb_bytes.specs.TablePages.{Row, RowLeaf, row_cost, rows_cost}
 use Rattle.mdb_bytes.specs.PageReadings.{row_leaf_of}
 use Rattle.mdb_bytes.specs.Forms.{Neighbours}
 use Rattle.mdb_bytes.specs.Paged.{PageBytes}
-use Rattle.leaf_runs.specs.Leaves.{by_bytes}
-use Rattle.leaf_runs.specs.Runs.{Leaf, run_rows, first_page, leaf_at, leaf_value, FillTwo}
+use Rattle.row_page.specs.Entries.{by_bytes}
+use Rattle.leaf_runs.specs.Runs.{Leaf, run_rows, first_page, leaf_at, leaf_value, LeavesFillTwo}
 use Rattle.leaf_runs.specs.Steps.{HasLeaf, StaysBeside, IsNamedAt, IsJoinedTo, MayJoin}
 use Rattle.leaf_runs.specs.declared.settling.Fill.{Fill}
 use Rattle.leaf_runs.specs.Tries.{IsFilled}
@@ -209,12 +209,12 @@ pub cost_both : (a b : List Row) → rows_cost (a ++ b) ≡ rows_cost a + rows_c
 cost_both a b = sum_by-append row_cost a b
 
 -- the first leaf may grow
-pub filled_grown : (a b : Leaf) (leaves : List Leaf) → rows_cost a.rows ≤ rows_cost b.rows → Neighbours FillTwo (a ∷ leaves) → Neighbours FillTwo (b ∷ leaves)
+pub filled_grown : (a b : Leaf) (leaves : List Leaf) → rows_cost a.rows ≤ rows_cost b.rows → Neighbours LeavesFillTwo (a ∷ leaves) → Neighbours LeavesFillTwo (b ∷ leaves)
 filled_grown a b [] le filled = tt
 filled_grown a b (l ∷ leaves) le filled = let two : page_room < rows_cost a.rows + rows_cost l.rows = filled.0 in (omega arith, filled.1)
 
 -- leaves go on after others where the first of them is no smaller than the last of these
-pub filled_on : (front : List Leaf) (a b : Leaf) (leaves : List Leaf) → rows_cost a.rows ≤ rows_cost b.rows → Neighbours FillTwo (front ++ a ∷ []) → Neighbours FillTwo (b ∷ leaves) → Neighbours FillTwo (front ++ b ∷ leaves)
+pub filled_on : (front : List Leaf) (a b : Leaf) (leaves : List Leaf) → rows_cost a.rows ≤ rows_cost b.rows → Neighbours LeavesFillTwo (front ++ a ∷ []) → Neighbours LeavesFillTwo (b ∷ leaves) → Neighbours LeavesFillTwo (front ++ b ∷ leaves)
 filled_on [] a b leaves le filled behind = behind
 filled_on (l ∷ []) a b leaves le filled behind = let two : page_room < rows_cost l.rows + rows_cost a.rows = filled.0 in (omega arith, behind)
 filled_on (l ∷ m ∷ front) a b leaves le filled behind = (filled.0, filled_on (m ∷ front) a b leaves le filled.1 behind)
@@ -279,7 +279,7 @@ module _ (pages : PageBytes) (table first : ℕ) (front : List Leaf) (here : Lea
             (here_filled pages table fill.next b (sym (next_is (b ∷ back) run)) (first_page back) (run_stands (b ∷ back) run).1.0 fill2 filled2).0
 
         -- both do not go on one page
-        pub try_full : (back : List Leaf) → IsLooseRun pages table (front ++ here ∷ back) → Neighbours FillTwo back → page_room < fill.used + fill2.used → (pages2 : PageBytes) → pages2 ≡ pages
+        pub try_full : (back : List Leaf) → IsLooseRun pages table (front ++ here ∷ back) → Neighbours LeavesFillTwo back → page_room < fill.used + fill2.used → (pages2 : PageBytes) → pages2 ≡ pages
             → IsJoinTry pages pages2 table front here back false
         try_full [] run filling over pages2 same = absurd (some (next_is [] run))
         try_full (b ∷ back) run filling over pages2 same =
@@ -322,7 +322,7 @@ module _ (pages : PageBytes) (table first : ℕ) (front : List Leaf) (here : Lea
           may_join (b ∷ back) run = (leaf_value table here b.page, leaf_value table b (first_page back), first_named (b ∷ back) run, next_named b back run, rows_up b back run, cost_fits b back run)
 
           -- they were joined
-          pub try_joined : (back : List Leaf) → IsLooseRun pages table (front ++ here ∷ back) → Neighbours FillTwo back → (pages2 : PageBytes) → JoinsTo pages pages2 table first fill.next
+          pub try_joined : (back : List Leaf) → IsLooseRun pages table (front ++ here ∷ back) → Neighbours LeavesFillTwo back → (pages2 : PageBytes) → JoinsTo pages pages2 table first fill.next
               → IsJoinTry pages pages2 table front here back true
           try_joined [] run filling pages2 joins = absurd (some (next_is [] run))
           try_joined (b ∷ back) run filling pages2 joins =

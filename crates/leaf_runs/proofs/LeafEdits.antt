@@ -23,12 +23,12 @@ use Rattle.mdb_bytes.specs.PageReadings.{row_leaf_of}
 use Rattle.mdb_bytes.proofs.Decoding.{and_left, and_right, and_both}
 use Rattle.mdb_bytes.proofs.NumberBytes.{AreBytes, bytes_pass}
 use Rattle.row_page.specs.Page.{used}
-use Rattle.row_page.specs.Entries.{Entry, Head, IsPage, Becomes, HasKey, IsPlaceFor, entries_of, head_of, is_leaf, cells, cost_of, entries_cost, key_at}
+use Rattle.row_page.specs.Entries.{PageEntry, Head, IsPage, Becomes, HasKey, IsPlaceFor, entries_of, page_head_of, is_leaf, cells, used_bytes, entries_cost, key_at, by_bytes}
 use Rattle.row_page.proofs.Edits.{map-insert, map-remove}
 use Rattle.row_page.proofs.Entries.{used_cells}
 use Rattle.sorted_places.specs.Search.{IsAt, IsGap}
 use Rattle.sorted_places.proofs.Sorted.{put-gap, where_key-at, where_key-gap, find-at}
-use Rattle.leaf_runs.specs.Leaves.{by_bytes, key_of}
+use Rattle.leaf_runs.specs.Leaves.{key_of_row}
 use Rattle.leaf_runs.specs.Edits.{with_rows, without, IsTaken, IsInserted, IsPut, IsLeafNamed}
 use Rattle.leaf_runs.proofs.RowLists.{t_left, t_right, t_both, from_true, to_true, is_less, below_right, below_through, sorted_left, sorted_right, put-back}
 use Rattle.leaf_runs.proofs.LeafLaw.{entry_of, head_for, IsLeafPage, leaf_page_of, page_leaf_of, rows_id, row_ok, rows_used, leaf_spells, spelled_leaf}
@@ -36,17 +36,17 @@ use Rattle.leaf_runs.proofs.Places.{some_same}
 use Rattle.leaf_runs.proofs.LeafReads.{as_pairs, found_at, no_row, no_value, count_is, entry_is}
 
 -- what the rows of a page cost
-pub page_cost : (bytes : List ℕ) (leaf : RowLeaf) → IsLeafPage bytes leaf → cost_of bytes ≡ rows_cost leaf.rows
+pub page_cost : (bytes : List ℕ) (leaf : RowLeaf) → IsLeafPage bytes leaf → used_bytes bytes ≡ rows_cost leaf.rows
 page_cost bytes leaf p = (λ i. entries_cost (is_leaf (p.head i)) (p.entries i)) ∙ sym (used_cells true (map entry_of leaf.rows)) ∙ rows_used leaf.rows
 
-pub cost_small : (bytes : List ℕ) → IsPage bytes → cost_of bytes ≤ 8128
-cost_small bytes p = subst (λ (n : ℕ). n ≤ 8128) (used_cells (is_leaf (head_of bytes)) (entries_of bytes)) p.entries.fits
+pub cost_small : (bytes : List ℕ) → IsPage bytes → used_bytes bytes ≤ 8128
+cost_small bytes p = subst (λ (n : ℕ). n ≤ 8128) (used_cells (is_leaf (page_head_of bytes)) (entries_of bytes)) p.entries.fits
 
 module _ (old new : List ℕ) (leaf : RowLeaf) (p : IsLeafPage old leaf) where
   -- a page that has become one of other rows
   pub edited : (rows : List Row) → Becomes old new (map entry_of rows) → list_all row_ok rows ≡ true → T (is_sorted by_bytes rows) → row_leaf_of new ≡ Some (with_rows leaf leaf.next rows)
   edited rows b ok up =
-      let head : head_of new ≡ head_for leaf = b.head ∙ p.head in
+      let head : page_head_of new ≡ head_for leaf = b.head ∙ p.head in
       let fits : used (cells true (map entry_of rows)) ≤ 8128 = subst (λ (n : ℕ). n ≤ 8128) (λ i. used (cells (is_leaf (head i)) (b.entries i))) b.page.entries.fits in
       page_leaf_of new (with_rows leaf leaf.next rows) (record {
         page = b.page;
@@ -73,20 +73,20 @@ remove_ok (x ∷ xs) (suc i) ok = and_both (row_ok x) (list_all row_ok (remove x
 without_up : (key : List ℕ) (rows : List Row) → T (is_sorted by_bytes rows) → T (is_sorted by_bytes (without key rows))
 without_up key rows up = is_sorted-where_key by_bytes (λ q. not (eq_by_cmp by_bytes key q)) rows up
 
-without_at : (rows : List Row) (key : List ℕ) (i : ℕ) → T (is_sorted by_bytes rows) → IsAt by_bytes key_of rows key i → without key rows ≡ remove rows i
+without_at : (rows : List Row) (key : List ℕ) (i : ℕ) → T (is_sorted by_bytes rows) → IsAt by_bytes key_of_row rows key i → without key rows ≡ remove rows i
 without_at rows key i up is =
-    ap (without key) (sym (rows_id rows)) ∙ where_key-at by_bytes key_of (λ (r : Row). r.1) nat_list_cmp_total rows (as_pairs rows up) key i is ∙ rows_id (remove rows i)
+    ap (without key) (sym (rows_id rows)) ∙ where_key-at by_bytes key_of_row (λ (r : Row). r.1) nat_list_cmp_total rows (as_pairs rows up) key i is ∙ rows_id (remove rows i)
 
-without_gap : (rows : List Row) (key : List ℕ) (i : ℕ) → IsGap by_bytes key_of rows key i → without key rows ≡ rows
-without_gap rows key i is = ap (without key) (sym (rows_id rows)) ∙ where_key-gap by_bytes key_of (λ (r : Row). r.1) nat_list_cmp_total rows key i is ∙ rows_id rows
+without_gap : (rows : List Row) (key : List ℕ) (i : ℕ) → IsGap by_bytes key_of_row rows key i → without key rows ≡ rows
+without_gap rows key i is = ap (without key) (sym (rows_id rows)) ∙ where_key-gap by_bytes key_of_row (λ (r : Row). r.1) nat_list_cmp_total rows key i is ∙ rows_id rows
 
 pub taken_at : (old new : List ℕ) (leaf : RowLeaf) (key : List ℕ) (at : ℕ) → row_leaf_of old ≡ Some leaf → HasKey (entries_of old) key at → Becomes old new (remove (entries_of old) at) → IsTaken true leaf key new
 taken_at old new leaf key at there has b =
     let p = leaf_page_of old leaf there in
-    let is : IsAt by_bytes key_of leaf.rows key at = found_at old leaf p key (Ok at) has in
+    let is : IsAt by_bytes key_of_row leaf.rows key at = found_at old leaf p key (Ok at) has in
     let same : without key leaf.rows ≡ remove leaf.rows at = without_at leaf.rows key at p.keeps.up is in
-    let entries : remove (entries_of old) at ≡ map entry_of (remove leaf.rows at) = ap (λ (es : List Entry). remove es at) p.entries ∙ sym (map-remove entry_of leaf.rows at) in (
-      sym (ap is_some (ap (find by_bytes key) (sym (rows_id leaf.rows)) ∙ find-at by_bytes key_of (λ (r : Row). r.1) nat_list_cmp_total leaf.rows key at no_row is)),
+    let entries : remove (entries_of old) at ≡ map entry_of (remove leaf.rows at) = ap (λ (es : List PageEntry). remove es at) p.entries ∙ sym (map-remove entry_of leaf.rows at) in (
+      sym (ap is_some (ap (find by_bytes key) (sym (rows_id leaf.rows)) ∙ find-at by_bytes key_of_row (λ (r : Row). r.1) nat_list_cmp_total leaf.rows key at no_row is)),
       edited old new leaf p (remove leaf.rows at) (subst (Becomes old new) entries b) (remove_ok leaf.rows at p.keeps.rows) (subst (λ (rs : List Row). T (is_sorted by_bytes rs)) same (without_up key leaf.rows p.keeps.up))
           ∙ ap (λ (rs : List Row). Some (with_rows leaf leaf.next rs)) (sym same),
     )
@@ -94,7 +94,7 @@ taken_at old new leaf key at there has b =
 pub taken_gap : (old : List ℕ) (leaf : RowLeaf) (key : List ℕ) (at : ℕ) → row_leaf_of old ≡ Some leaf → IsPlaceFor (entries_of old) key at → IsTaken false leaf key old
 taken_gap old leaf key at there has =
     let p = leaf_page_of old leaf there in
-    let is : IsGap by_bytes key_of leaf.rows key at = found_at old leaf p key (Err at) has in
+    let is : IsGap by_bytes key_of_row leaf.rows key at = found_at old leaf p key (Err at) has in
     (sym (ap is_some (no_value old leaf p key at is)), there ∙ ap (λ (rs : List Row). Some (with_rows leaf leaf.next rs)) (sym (without_gap leaf.rows key at is)))
 
 -- Rows put in
@@ -105,9 +105,9 @@ insert_ok [] (suc i) row ok one = and_both (row_ok row) true one refl
 insert_ok (x ∷ xs) zero row ok one = and_both (row_ok row) (list_all row_ok (x ∷ xs)) one ok
 insert_ok (x ∷ xs) (suc i) row ok one = and_both (row_ok x) (list_all row_ok (insert xs i row)) (and_left (row_ok x) _ ok) (insert_ok xs i row (and_right (row_ok x) _ ok) one)
 
-put_gap : (rows : List Row) (key value : List ℕ) (i : ℕ) → IsGap by_bytes key_of rows key i → put by_bytes key value rows ≡ insert rows i (key, value)
+put_gap : (rows : List Row) (key value : List ℕ) (i : ℕ) → IsGap by_bytes key_of_row rows key i → put by_bytes key value rows ≡ insert rows i (key, value)
 put_gap rows key value i is =
-    ap (put by_bytes key value) (sym (rows_id rows)) ∙ sym (put-gap by_bytes key_of (λ (r : Row). r.1) nat_list_cmp_total rows (key, value) i is) ∙ rows_id (insert rows i (key, value))
+    ap (put by_bytes key value) (sym (rows_id rows)) ∙ sym (put-gap by_bytes key_of_row (λ (r : Row). r.1) nat_list_cmp_total rows (key, value) i is) ∙ rows_id (insert rows i (key, value))
 
 pub row_fine : (key value : List ℕ) → IsTrue (is_key key) → IsTrue (is_value value) → AreBytes key → AreBytes value → row_ok (key, value) ≡ true
 row_fine key value k v kb vb = and_both _ _ (and_both (is_key key) (is_value value) k v) (and_both _ _ (bytes_pass key kb) (bytes_pass value vb))
@@ -116,19 +116,19 @@ pub inserted : (old new : List ℕ) (leaf : RowLeaf) (key value : List ℕ) (at 
     → Becomes old new (insert (entries_of old) at (record { key = key; rest = value })) → IsInserted true leaf key value old new
 inserted old new leaf key value at there place ok b =
     let p = leaf_page_of old leaf there in
-    let is : IsGap by_bytes key_of leaf.rows key at = found_at old leaf p key (Err at) place in
+    let is : IsGap by_bytes key_of_row leaf.rows key at = found_at old leaf p key (Err at) place in
     let same = put_gap leaf.rows key value at is in
     let row : Row = (key, value) in
-    let entries : insert (entries_of old) at (entry_of row) ≡ map entry_of (insert leaf.rows at row) = ap (λ (es : List Entry). insert es at (entry_of row)) p.entries ∙ sym (map-insert entry_of leaf.rows at row) in
+    let entries : insert (entries_of old) at (entry_of row) ≡ map entry_of (insert leaf.rows at row) = ap (λ (es : List PageEntry). insert es at (entry_of row)) p.entries ∙ sym (map-insert entry_of leaf.rows at row) in
     edited old new leaf p (insert leaf.rows at row) (subst (Becomes old new) entries b) (insert_ok leaf.rows at row p.keeps.rows ok)
     (subst (λ (rs : List Row). T (is_sorted by_bytes rs)) same (is_sorted-put by_bytes nat_list_cmp_total key value leaf.rows p.keeps.up))
     ∙ ap (λ (rs : List Row). Some (with_rows leaf leaf.next rs)) (sym same)
 
-pub no_room : (old : List ℕ) (leaf : RowLeaf) (key value : List ℕ) (at : ℕ) → row_leaf_of old ≡ Some leaf → IsPlaceFor (entries_of old) key at → 8128 < cost_of old + (8 + length key + length value)
+pub no_room : (old : List ℕ) (leaf : RowLeaf) (key value : List ℕ) (at : ℕ) → row_leaf_of old ≡ Some leaf → IsPlaceFor (entries_of old) key at → 8128 < used_bytes old + (8 + length key + length value)
     → 8128 < rows_cost (put by_bytes key value leaf.rows)
 no_room old leaf key value at there place full =
     let p = leaf_page_of old leaf there in
-    let is : IsGap by_bytes key_of leaf.rows key at = found_at old leaf p key (Err at) place in
+    let is : IsGap by_bytes key_of_row leaf.rows key at = found_at old leaf p key (Err at) place in
     let same = ap rows_cost (put_gap leaf.rows key value at is) in
     let sum = sum_by-insert row_cost leaf.rows at (key, value) in
     let cost = page_cost old leaf p in
@@ -137,8 +137,8 @@ no_room old leaf key value at there place full =
 pub not_found : (old : List ℕ) (leaf : RowLeaf) (key : List ℕ) (at : ℕ) → row_leaf_of old ≡ Some leaf → HasKey (entries_of old) key at → find by_bytes key leaf.rows ≡ None → ⊥
 not_found old leaf key at there has none =
     let p = leaf_page_of old leaf there in
-    let is : IsAt by_bytes key_of leaf.rows key at = found_at old leaf p key (Ok at) has in
-    let some = ap (find by_bytes key) (sym (rows_id leaf.rows)) ∙ find-at by_bytes key_of (λ (r : Row). r.1) nat_list_cmp_total leaf.rows key at no_row is in
+    let is : IsAt by_bytes key_of_row leaf.rows key at = found_at old leaf p key (Ok at) has in
+    let some = ap (find by_bytes key) (sym (rows_id leaf.rows)) ∙ find-at by_bytes key_of_row (λ (r : Row). r.1) nat_list_cmp_total leaf.rows key at no_row is in
     let wrong : Some (get_or leaf.rows at no_row).1 ≡ None = sym some ∙ none in
     absurd cc
 
@@ -191,7 +191,7 @@ pub value_short : (value : List ℕ) → IsTrue (is_value value) → length valu
 value_short value is = leb-true (length value) 1500 is
 
 pub inserted_by : (r : Bool) (old new : List ℕ) (leaf : RowLeaf) (key value : List ℕ) (at : ℕ) → row_leaf_of old ≡ Some leaf → IsPlaceFor (entries_of old) key at → row_ok (key, value) ≡ true
-    → (r ≡ true → Becomes old new (insert (entries_of old) at (record { key = key; rest = value }))) → (r ≡ false → (new ≡ old) × (8128 < cost_of old + (8 + length key + length value))) → IsInserted r leaf key value old new
+    → (r ≡ true → Becomes old new (insert (entries_of old) at (record { key = key; rest = value }))) → (r ≡ false → (new ≡ old) × (8128 < used_bytes old + (8 + length key + length value))) → IsInserted r leaf key value old new
 inserted_by true old new leaf key value at there place ok done full = inserted old new leaf key value at there place ok (done refl)
 inserted_by false old new leaf key value at there place ok done full = let f = full refl in (f.0, no_room old leaf key value at there place f.1)
 
@@ -225,7 +225,7 @@ drop_up : (rows : List Row) (i : ℕ) → T (is_sorted by_bytes rows) → T (is_
 drop_up rows i up = sorted_right (take i rows) (drop i rows) (subst (λ (rs : List Row). T (is_sorted by_bytes rs)) (sym (take-append-drop i rows)) up)
 
 -- a page of the head and entries of a leaf is that leaf
-pub made : (new : List ℕ) (v : RowLeaf) → IsPage new → head_of new ≡ head_for v → entries_of new ≡ map entry_of v.rows → IsTrue (is_table v.table) → v.number < 2 ^ 32 → v.next < 2 ^ 32
+pub made : (new : List ℕ) (v : RowLeaf) → IsPage new → page_head_of new ≡ head_for v → entries_of new ≡ map entry_of v.rows → IsTrue (is_table v.table) → v.number < 2 ^ 32 → v.next < 2 ^ 32
     → list_all row_ok v.rows ≡ true → T (is_sorted by_bytes v.rows) → row_leaf_of new ≡ Some v
 made new v page head entries table number next ok up =
     let fits : used (cells true (map entry_of v.rows)) ≤ 8128 = subst (λ (n : ℕ). n ≤ 8128) (λ i. used (cells (is_leaf (head i)) (entries i))) page.entries.fits in
@@ -237,14 +237,14 @@ made new v page head entries table number next ok up =
     })
 
 pub split_first : (old mid new : List ℕ) (leaf : RowLeaf) (at to : ℕ) → row_leaf_of old ≡ Some leaf → to < 2 ^ 32 → Becomes old mid (take at (entries_of old))
-    → IsPage new → head_of new ≡ record (head_of mid) { next = to } → entries_of new ≡ entries_of mid → row_leaf_of new ≡ Some (with_rows leaf to (take at leaf.rows))
+    → IsPage new → page_head_of new ≡ record (page_head_of mid) { next = to } → entries_of new ≡ entries_of mid → row_leaf_of new ≡ Some (with_rows leaf to (take at leaf.rows))
 split_first old mid new leaf at to there small b page head entries =
     let p = leaf_page_of old leaf there in
     made new (with_rows leaf to (take at leaf.rows)) page (head ∙ ap (λ (h : Head). record h { next = to }) (b.head ∙ p.head))
     (entries ∙ b.entries ∙ ap (take at) p.entries ∙ take-map entry_of at leaf.rows) p.keeps.table p.keeps.number small (take_ok leaf.rows at p.keeps.rows) (take_up leaf.rows at p.keeps.up)
 
 pub split_second : (old other mid new : List ℕ) (leaf blank : RowLeaf) (at : ℕ) → row_leaf_of old ≡ Some leaf → row_leaf_of other ≡ Some blank → Becomes other mid (drop at (entries_of old))
-    → IsPage new → head_of new ≡ record (head_of mid) { next = leaf.next } → entries_of new ≡ entries_of mid → row_leaf_of new ≡ Some (with_rows blank leaf.next (drop at leaf.rows))
+    → IsPage new → page_head_of new ≡ record (page_head_of mid) { next = leaf.next } → entries_of new ≡ entries_of mid → row_leaf_of new ≡ Some (with_rows blank leaf.next (drop at leaf.rows))
 split_second old other mid new leaf blank at there there2 b page head entries =
     let p = leaf_page_of old leaf there in
     let q = leaf_page_of other blank there2 in
@@ -252,7 +252,7 @@ split_second old other mid new leaf blank at there there2 b page head entries =
     (entries ∙ b.entries ∙ ap (drop at) p.entries ∙ drop-map entry_of at leaf.rows) q.keeps.table q.keeps.number p.keeps.next (drop_ok leaf.rows at p.keeps.rows) (drop_up leaf.rows at p.keeps.up)
 
 pub joined_by : (old other mid new : List ℕ) (leaf second : RowLeaf) → row_leaf_of old ≡ Some leaf → row_leaf_of other ≡ Some second → T (is_sorted by_bytes (leaf.rows ++ second.rows))
-    → Becomes old mid (entries_of old ++ entries_of other) → IsPage new → head_of new ≡ record (head_of mid) { next = second.next } → entries_of new ≡ entries_of mid
+    → Becomes old mid (entries_of old ++ entries_of other) → IsPage new → page_head_of new ≡ record (page_head_of mid) { next = second.next } → entries_of new ≡ entries_of mid
     → row_leaf_of new ≡ Some (with_rows leaf second.next (leaf.rows ++ second.rows))
 joined_by old other mid new leaf second there there2 up b page head entries =
     let p = leaf_page_of old leaf there in
@@ -338,8 +338,8 @@ ascend_by old other last first leaf second there there2 some some2 is_last is_fi
     let n = count_is old leaf p in
     let place : length (entries_of old) - 1 ≡ length leaf.rows - 1 = omega arith in
     let inside : length leaf.rows - 1 < length leaf.rows = omega arith in
-    let a : last ≡ (get_or leaf.rows (length leaf.rows - 1) no_row).0 = is_last ∙ ap (λ (k : ℕ). key_at (entries_of old) k) place ∙ ap (λ (e : Entry). e.key) (entry_is old leaf p (length leaf.rows - 1) no_row inside) in
-    let b : first ≡ (get_or second.rows 0 no_row).0 = is_first ∙ ap (λ (e : Entry). e.key) (entry_is other second q 0 no_row some2) in
+    let a : last ≡ (get_or leaf.rows (length leaf.rows - 1) no_row).0 = is_last ∙ ap (λ (k : ℕ). key_at (entries_of old) k) place ∙ ap (λ (e : PageEntry). e.key) (entry_is old leaf p (length leaf.rows - 1) no_row inside) in
+    let b : first ≡ (get_or second.rows 0 no_row).0 = is_first ∙ ap (λ (e : PageEntry). e.key) (entry_is other second q 0 no_row some2) in
     (λ i. is_lt (by_bytes (a i) (b i))) ∙ sym (join_sorted leaf.rows second.rows p.keeps.up q.keeps.up some some2)
 
 -- with no rows in one of two leaves, the keys ascend
@@ -364,7 +364,7 @@ not_blank old leaf count there is some none =
     let m : length leaf.rows ≡ 0 = ap length none in
     some (omega arith)
 
-pub too_full : (old other : List ℕ) (leaf second : RowLeaf) (a b : ℕ) → row_leaf_of old ≡ Some leaf → row_leaf_of other ≡ Some second → a ≡ cost_of old → b ≡ cost_of other → 8128 < a + b → rows_cost leaf.rows + rows_cost second.rows ≤ 8128 → ⊥
+pub too_full : (old other : List ℕ) (leaf second : RowLeaf) (a b : ℕ) → row_leaf_of old ≡ Some leaf → row_leaf_of other ≡ Some second → a ≡ used_bytes old → b ≡ used_bytes other → 8128 < a + b → rows_cost leaf.rows + rows_cost second.rows ≤ 8128 → ⊥
 too_full old other leaf second a b there there2 is is2 full fits =
     let n = page_cost old leaf (leaf_page_of old leaf there) in
     let m = page_cost other second (leaf_page_of other second there2) in

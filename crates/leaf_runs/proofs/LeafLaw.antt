@@ -17,23 +17,23 @@ use Rattle.std.specs.FinMap.{is_sorted}
 use Rattle.byteorder.specs.Endian.{big_bytes}
 use Rattle.mdb_model.specs.Script.{is_table, is_key}
 use Rattle.mdb_bytes.specs.Fields.{Field, Two, Zeros, Spells, field_fits, fields_fit, spelled, rises}
-use Rattle.mdb_bytes.specs.Parts.{Keeps, page_room}
+use Rattle.mdb_bytes.specs.Parts.{KeepsLimits, page_room}
 use Rattle.mdb_bytes.specs.LogicalPages.{header_fields}
 use Rattle.mdb_bytes.specs.TablePages.{Row, RowLeaf, row_fields, row_len, row_cost, row_fits, rows_cost, slot_fields, row_leaf_fields, row_leaf_fits, row_leaf_reads, row_leaf_format, longest_value}
 use Rattle.mdb_bytes.specs.PageReadings.{row_leaf_of}
 use Rattle.mdb_bytes.proofs.Decoding.{and_left, and_right, and_both, decoded-spells, spelled-decoded}
 use Rattle.mdb_bytes.proofs.PagesBack.{row_leaf_again}
 use Rattle.mdb_bytes.proofs.GroupLaw.{spelled-append}
-use Rattle.row_page.specs.Page.{run, slots, body_of, used}
-use Rattle.row_page.specs.Entries.{Entry, Head, AreEntries, AllKept, Ascend, Shows, IsPage, head_of, entries_of, page_of, cell_of, cells, no_entry}
+use Rattle.row_page.specs.Page.{joined_cells, slots, page_body, used}
+use Rattle.row_page.specs.Entries.{PageEntry, Head, AreEntries, AllKept, Ascend, ShowsEntries, IsPage, page_head_of, entries_of, page_bytes, cell_of, cells, empty_entry, by_bytes}
 use Rattle.row_page.proofs.ReadBack.{is_page, head_is, entries_are}
 use Rattle.row_page.proofs.Entries.{length-cell}
 use Rattle.sorted_places.proofs.Sorted.{sorted-index, sorted_from_rises, rises_from_sorted}
 use Rattle.mdb_bytes.specs.declared.page_sections.PageHead.{PageHead}
 use Rattle.mdb_bytes.specs.EntryPages.{leaf_head}
-use Rattle.leaf_runs.specs.Leaves.{by_bytes, key_of, IsRunLeaf}
+use Rattle.leaf_runs.specs.Leaves.{key_of_row, IsRunLeaf}
 
-abbrev pub entry_of : Row → Entry
+abbrev pub entry_of : Row → PageEntry
 entry_of row = record { key = row.0; rest = row.1 }
 
 abbrev pub head_for : RowLeaf → Head
@@ -44,8 +44,8 @@ row_cell : (row : Row) → spelled (row_fields row) ≡ cell_of true (entry_of r
 unfolding spelled cell_of
 row_cell row = ap (λ (t : List ℕ). big_bytes 2 (length row.0) ++ (big_bytes 2 (length row.1) ++ (0 ∷ 0 ∷ [] ++ (row.0 ++ t)))) (append-nil row.1)
 
-rows_run : (rows : List Row) → spelled (flat_map row_fields rows) ≡ run (cells true (map entry_of rows))
-unfolding spelled run
+rows_run : (rows : List Row) → spelled (flat_map row_fields rows) ≡ joined_cells (cells true (map entry_of rows))
+unfolding spelled joined_cells
 rows_run [] = refl
 rows_run (row ∷ rows) =
     ap spelled (flat_map-cons row_fields row rows) ∙ spelled-append (row_fields row) (flat_map row_fields rows)
@@ -61,13 +61,13 @@ rows_slots at (row ∷ rows) =
 
 -- what rows cost is what their cells use
 pub rows_used : (rows : List Row) → used (cells true (map entry_of rows)) ≡ rows_cost rows
-unfolding run
+unfolding joined_cells
 rows_used [] = refl
 rows_used (row ∷ rows) =
     let rest = rows_used rows in
     let one = length-cell true (entry_of row) in
     let cost : rows_cost (row ∷ rows) ≡ row_cost row + rows_cost rows = sum_by-cons row_cost row rows in
-    let both = length_append (cell_of true (entry_of row)) (run (cells true (map entry_of rows))) in
+    let both = length_append (cell_of true (entry_of row)) (joined_cells (cells true (map entry_of rows))) in
     omega arith
   where
     length_append : (a b : List ℕ) → length (a ++ b) ≡ length a + length b
@@ -75,8 +75,8 @@ rows_used (row ∷ rows) =
     length_append (x ∷ a) b = let more = length_append a b in omega arith
 
 -- the bytes of a leaf are those of a page of entries
-pub leaf_page_is : (v : RowLeaf) → spelled (row_leaf_fields v) ≡ page_of (head_for v) (map entry_of v.rows)
-unfolding spelled page_of body_of
+pub leaf_page_is : (v : RowLeaf) → spelled (row_leaf_fields v) ≡ page_bytes (head_for v) (map entry_of v.rows)
+unfolding spelled page_bytes page_body
 leaf_page_is v =
     let cs = cells true (map entry_of v.rows) in
     let header : List Field = header_fields 1 0 v.table v.number (length v.rows) (rows_cost v.rows) v.next in
@@ -85,7 +85,7 @@ leaf_page_is v =
     ∙ ap (λ (t : List ℕ). spelled header ++ t)
     (spelled-append (flat_map row_fields v.rows) area
     ∙ (λ i. rows_run v.rows i ++ (replicate (page_room - sym (rows_used v.rows) i) 0 ++ rows_slots 64 v.rows i)))
-    ∙ (λ i. spelled (header_fields 1 0 v.table v.number (sym (length-map v.rows entry_of) i) (sym (rows_used v.rows) i) v.next) ++ body_of 8128 cs)
+    ∙ (λ i. spelled (header_fields 1 0 v.table v.number (sym (length-map v.rows entry_of) i) (sym (rows_used v.rows) i) v.next) ++ page_body 8128 cs)
 
 -- The limits of a leaf
 
@@ -108,7 +108,7 @@ pub rows_id : (rows : List Row) → map (λ (r : Row). let same : Row = (r.0, r.
 rows_id [] = refl
 rows_id (row ∷ rows) = ap (λ (rs : List Row). row ∷ rs) (rows_id rows)
 
-pub rows_back : (rows : List Row) → map (λ (e : Entry). let same : Row = (e.key, e.rest) in same) (map entry_of rows) ≡ rows
+pub rows_back : (rows : List Row) → map (λ (e : PageEntry). let same : Row = (e.key, e.rest) in same) (map entry_of rows) ≡ rows
 rows_back [] = refl
 rows_back (row ∷ rows) = ap (λ (rs : List Row). row ∷ rs) (rows_back rows)
 
@@ -162,13 +162,13 @@ few_rows [] = omega arith
 few_rows (row ∷ rows) = let more = few_rows rows in let cost : rows_cost (row ∷ rows) ≡ row_cost row + rows_cost rows = sum_by-cons row_cost row rows in omega arith
 
 -- a leaf within its limits, part by part
-pub leaf_keeps : (v : RowLeaf) → Keeps (row_leaf_format longest_value) v → KeepsLeaf v
+pub leaf_keeps : (v : RowLeaf) → KeepsLimits (row_leaf_format longest_value) v → KeepsLeaf v
 leaf_keeps v kept =
     let header : List Field = header_fields 1 0 v.table v.number (length v.rows) (rows_cost v.rows) v.next in
     let area : List Field = Zeros (page_room - rows_cost v.rows) ∷ slot_fields 64 (map row_len v.rows) in
     let fits : row_leaf_fits longest_value v ≡ true = and_left (row_leaf_fits longest_value v) _ kept in
     let front : (is_table v.table && nat_le (rows_cost v.rows) page_room) ≡ true = and_left (is_table v.table && nat_le (rows_cost v.rows) page_room) _ fits in
-    let rows : (list_all (row_fits longest_value) v.rows && rises (slice_cmp nat_cmp) (map key_of v.rows)) ≡ true = and_right (is_table v.table && nat_le (rows_cost v.rows) page_room) _ fits in
+    let rows : (list_all (row_fits longest_value) v.rows && rises (slice_cmp nat_cmp) (map key_of_row v.rows)) ≡ true = and_right (is_table v.table && nat_le (rows_cost v.rows) page_room) _ fits in
     let fields : (fields_fit header && fields_fit (flat_map row_fields v.rows ++ area)) ≡ true =
     sym (list_all-append field_fits header (flat_map row_fields v.rows ++ area)) ∙ and_right (row_leaf_fits longest_value v) _ kept in
     let body : (fields_fit (flat_map row_fields v.rows) && fields_fit area) ≡ true =
@@ -181,10 +181,10 @@ leaf_keeps v kept =
       fits = leb-true (rows_cost v.rows) page_room (and_right (is_table v.table) _ front);
       rows = rows_ok v.rows (and_left (list_all (row_fits longest_value) v.rows) _ rows) (and_left (fields_fit (flat_map row_fields v.rows)) _ body);
       up = subst (λ (rs : List Row). T (is_sorted by_bytes rs)) (rows_id v.rows)
-          (sorted_from_rises by_bytes key_of (λ (r : Row). r.1) v.rows (and_right (list_all (row_fits longest_value) v.rows) _ rows));
+          (sorted_from_rises by_bytes key_of_row (λ (r : Row). r.1) v.rows (and_right (list_all (row_fits longest_value) v.rows) _ rows));
     }
 
-pub keeps_leaf : (v : RowLeaf) → KeepsLeaf v → Keeps (row_leaf_format longest_value) v
+pub keeps_leaf : (v : RowLeaf) → KeepsLeaf v → KeepsLimits (row_leaf_format longest_value) v
 keeps_leaf v k =
     let header : List Field = header_fields 1 0 v.table v.number (length v.rows) (rows_cost v.rows) v.next in
     let area : List Field = Zeros (page_room - rows_cost v.rows) ∷ slot_fields 64 (map row_len v.rows) in
@@ -192,8 +192,8 @@ keeps_leaf v k =
     let fit = k.fits in
     let parts = rows_fields v.rows k.rows in
     let table : v.table ≤ 500 = leb-true v.table 500 (and_right (nat_le 1 v.table) _ k.table) in
-    let rises_is : rises (slice_cmp nat_cmp) (map key_of v.rows) ≡ true =
-    rises_from_sorted by_bytes key_of (λ (r : Row). r.1) v.rows (subst (λ (rs : List Row). T (is_sorted by_bytes rs)) (sym (rows_id v.rows)) k.up) in
+    let rises_is : rises (slice_cmp nat_cmp) (map key_of_row v.rows) ≡ true =
+    rises_from_sorted by_bytes key_of_row (λ (r : Row). r.1) v.rows (subst (λ (rs : List Row). T (is_sorted by_bytes rs)) (sym (rows_id v.rows)) k.up) in
     let head : fields_fit header ≡ true =
     and_both (nat_lt v.table (2 ^ 16)) _ (lt-ltb v.table (2 ^ 16) (omega arith))
     (and_both (nat_lt v.number (2 ^ 32)) _ (lt-ltb v.number (2 ^ 32) k.number)
@@ -201,9 +201,9 @@ keeps_leaf v k =
     (and_both (nat_lt (rows_cost v.rows) (2 ^ 16)) _ (lt-ltb (rows_cost v.rows) (2 ^ 16) (omega arith))
     (and_both (nat_lt v.next (2 ^ 32)) true (lt-ltb v.next (2 ^ 32) k.next) refl)))) in
     and_both (row_leaf_fits longest_value v) (fields_fit (row_leaf_fields v))
-    (and_both (is_table v.table && nat_le (rows_cost v.rows) page_room) (list_all (row_fits longest_value) v.rows && rises (slice_cmp nat_cmp) (map key_of v.rows))
+    (and_both (is_table v.table && nat_le (rows_cost v.rows) page_room) (list_all (row_fits longest_value) v.rows && rises (slice_cmp nat_cmp) (map key_of_row v.rows))
     (and_both (is_table v.table) (nat_le (rows_cost v.rows) page_room) k.table (le-leb (rows_cost v.rows) page_room k.fits))
-    (and_both (list_all (row_fits longest_value) v.rows) (rises (slice_cmp nat_cmp) (map key_of v.rows)) parts.0 rises_is))
+    (and_both (list_all (row_fits longest_value) v.rows) (rises (slice_cmp nat_cmp) (map key_of_row v.rows)) parts.0 rises_is))
     (list_all-append field_fits header (flat_map row_fields v.rows ++ area)
     ∙ and_both (fields_fit header) (fields_fit (flat_map row_fields v.rows ++ area)) head
     (list_all-append field_fits (flat_map row_fields v.rows) area
@@ -218,7 +218,7 @@ all_kept (row ∷ rows) all (suc i) lt = all_kept rows (and_right (row_ok row) _
 
 keys_ascend : (rows : List Row) → T (is_sorted by_bytes rows) → Ascend (map entry_of rows)
 keys_ascend rows up i j lt inside =
-    sorted-index by_bytes (λ (e : Entry). e.key) (λ (e : Entry). e.rest) nat_list_cmp_total (map entry_of rows) (subst (λ (rs : List Row). T (is_sorted by_bytes rs)) (sym (rows_back rows)) up) i j no_entry lt inside
+    sorted-index by_bytes (λ (e : PageEntry). e.key) (λ (e : PageEntry). e.rest) nat_list_cmp_total (map entry_of rows) (subst (λ (rs : List Row). T (is_sorted by_bytes rs)) (sym (rows_back rows)) up) i j empty_entry lt inside
 
 pub entries_kept : (v : RowLeaf) → KeepsLeaf v → AreEntries true (map entry_of v.rows)
 entries_kept v k = record {
@@ -228,7 +228,7 @@ entries_kept v k = record {
 }
 
 -- bytes that spell a leaf show its head and its entries
-pub shows_leaf : (v : RowLeaf) (bytes : List ℕ) → Spells (row_leaf_format longest_value) v bytes → Shows bytes (head_for v) (map entry_of v.rows)
+pub shows_leaf : (v : RowLeaf) (bytes : List ℕ) → Spells (row_leaf_format longest_value) v bytes → ShowsEntries bytes (head_for v) (map entry_of v.rows)
 shows_leaf v bytes s =
     let k = leaf_keeps v s.0 in record {
       head = record {
@@ -246,7 +246,7 @@ shows_leaf v bytes s =
 -- the bytes are the page of a leaf, whose limits are kept
 pub record IsLeafPage (bytes : List ℕ) (v : RowLeaf) : Type 0 where
   pub page : IsPage bytes
-  pub head : head_of bytes ≡ head_for v
+  pub head : page_head_of bytes ≡ head_for v
   pub entries : entries_of bytes ≡ map entry_of v.rows
   pub keeps : KeepsLeaf v
 
@@ -264,7 +264,7 @@ leaf_page_of bytes v e =
 pub page_leaf_of : (bytes : List ℕ) (v : RowLeaf) → IsLeafPage bytes v → row_leaf_of bytes ≡ Some v
 unfolding row_leaf_of
 page_leaf_of bytes v p =
-    let whole : bytes ≡ page_of (head_for v) (map entry_of v.rows) = p.page.bytes ∙ (λ i. page_of (p.head i) (p.entries i)) in
+    let whole : bytes ≡ page_bytes (head_for v) (map entry_of v.rows) = p.page.bytes ∙ (λ i. page_bytes (p.head i) (p.entries i)) in
     spelled-decoded (row_leaf_format longest_value) (row_leaf_again longest_value) bytes v (keeps_leaf v p.keeps, whole ∙ sym (leaf_page_is v))
 
 -- what is read of the bytes of a leaf

@@ -19,3 +19,4 @@ pub mod RowCosts
 pub mod EntryWrites
 pub mod NewRuns
 pub mod Changes
+pub mod TableAreas

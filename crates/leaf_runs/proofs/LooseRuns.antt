@@ -17,7 +17,7 @@ use Rattle.std.specs.FinMap.Entries.{below_all, is_sorted-put}
 use Rattle.mdb_bytes.specs.TablePages.{Row, RowLeaf}
 use Rattle.mdb_bytes.specs.PageReadings.{row_leaf_of}
 use Rattle.mdb_bytes.specs.Paged.{PageBytes}
-use Rattle.leaf_runs.specs.Leaves.{by_bytes}
+use Rattle.row_page.specs.Entries.{by_bytes}
 use Rattle.leaf_runs.specs.Edits.{without}
 use Rattle.leaf_runs.specs.Runs.{Leaf, run_rows, first_page, leaf_at, leaf_value}
 use Rattle.leaf_runs.specs.Loose.{LeafIsAt, IsLooseChain, IsLooseRun, IsFreeOrOf, StaysBesideTable, Rewrites, IsRound}

@@ -14,11 +14,11 @@ use Rattle.mdb_bytes.specs.TablePages.{Row, rows_cost}
 use Rattle.mdb_bytes.specs.PageReadings.{row_leaf_of, catalogue_of}
 use Rattle.mdb_bytes.specs.Forms.{Neighbours}
 use Rattle.mdb_bytes.specs.Paged.{PageBytes, is_live}
-use Rattle.leaf_runs.specs.Leaves.{by_bytes}
+use Rattle.row_page.specs.Entries.{by_bytes}
 use Rattle.leaf_runs.specs.Edits.{without}
-use Rattle.leaf_runs.specs.Runs.{Leaf, run_rows, first_page, leaf_value, FillTwo, IsChain, IsTableRun, AreRuns, HasEntry, IsSpot}
-use Rattle.leaf_runs.specs.Loose.{IsLooseChain, IsLooseRun, IsFreeOrOf, StaysBesideTable, Rewrites, PartsAre, IsPlaced, HasHere, HasSpot, IsChangedRun, IsSettled}
-use Rattle.leaf_runs.specs.Changed.{IsFound, IsWholeRun, IsNewRun, IsSettledRun, IsTakenRun, leaves_added}
+use Rattle.leaf_runs.specs.Runs.{Leaf, run_rows, first_page, leaf_value, LeavesFillTwo, IsChain, IsTableRun, AreRuns, HasEntry, IsSpot}
+use Rattle.leaf_runs.specs.Loose.{IsLooseChain, IsLooseRun, IsFreeOrOf, StaysBesideTable, Rewrites, PartsAre, PutsRowInLeaf, HasHere, HasSpot, IsChangedRun, JoinsLeaves}
+use Rattle.leaf_runs.specs.Changed.{FindsSpot, IsWholeRun, IsNewRun, IsSettledRun, IsTakenRun, leaves_added}
 use Rattle.leaf_runs.proofs.RowLists.{put-front, put-back, without-append, without-front, without-back}
 use Rattle.leaf_runs.proofs.LeafLaw.{leaf_page_of}
 use Rattle.leaf_runs.proofs.Chains.{run_rows-append, chain_len}
@@ -104,12 +104,12 @@ beside_none a b table same number = inl (ap (λ (p : PageBytes). get p number) s
 
 -- Leaves in parts
 
-filled_left : (a b : List Leaf) → Neighbours FillTwo (a ++ b) → Neighbours FillTwo a
+filled_left : (a b : List Leaf) → Neighbours LeavesFillTwo (a ++ b) → Neighbours LeavesFillTwo a
 filled_left [] b n = tt
 filled_left (x ∷ []) b n = tt
 filled_left (x ∷ y ∷ a) b n = (n.0, filled_left (y ∷ a) b n.1)
 
-filled_right : (a b : List Leaf) → Neighbours FillTwo (a ++ b) → Neighbours FillTwo b
+filled_right : (a b : List Leaf) → Neighbours LeavesFillTwo (a ++ b) → Neighbours LeavesFillTwo b
 filled_right [] b n = n
 filled_right (x ∷ []) [] n = tt
 filled_right (x ∷ []) (y ∷ b) n = n.1
@@ -145,10 +145,10 @@ module _ (pages : PageBytes) (table : ℕ) (entry : CatalogueEntry) (leaves : Li
   pub has_here : HasHere pages table page
   has_here = record { front = spot.front; here = spot.here; back = spot.back; page_is = spot.page_is; run = here_run }
 
-  filled : Neighbours FillTwo (spot.front ++ spot.here ∷ spot.back)
-  filled = subst (Neighbours FillTwo) spot.whole whole.run.filled
+  filled : Neighbours LeavesFillTwo (spot.front ++ spot.here ∷ spot.back)
+  filled = subst (Neighbours LeavesFillTwo) spot.whole whole.run.filled
 
-  filled_behind : Neighbours FillTwo spot.back
+  filled_behind : Neighbours LeavesFillTwo spot.back
   filled_behind = filled_right (spot.here ∷ []) spot.back (filled_right spot.front (spot.here ∷ spot.back) filled)
 
   -- the leaves on whose place these parts stand
@@ -188,7 +188,7 @@ module _ (pages : PageBytes) (table : ℕ) (entry : CatalogueEntry) (leaves : Li
 
   -- the entry of the leaves that are left once a change is settled
   settled_entry : (pages1 pages2 : PageBytes) (parts : List Leaf) (other : Option ℕ) (rows : List Row) (entry2 : CatalogueEntry) (joined taken new : ℕ)
-      → StaysBesideTable pages pages1 table → PartsAre parts spot.here.page other → run_rows (spot.front ++ (parts ++ spot.back)) ≡ rows → IsSettled pages1 pages2 table (spot.front ++ (parts ++ spot.back)) joined
+      → StaysBesideTable pages pages1 table → PartsAre parts spot.here.page other → run_rows (spot.front ++ (parts ++ spot.back)) ≡ rows → JoinsLeaves pages1 pages2 table (spot.front ++ (parts ++ spot.back)) joined
       → entry2.root ≡ entry.root → (entry.pages ≤ 65536 → entry2.pages ≡ (entry.pages + leaves_added other) - joined) → (entry.cost + new < 2 ^ 64 → entry2.cost ≡ (entry.cost - taken) + new)
       → rows_cost rows + taken ≡ rows_cost (run_rows leaves) + new → taken ≤ rows_cost (run_rows leaves) → new ≤ 1764 → IsTakenRun pages pages2 table rows entry2
   settled_entry pages1 pages2 parts other rows entry2 joined taken new others are is settled root count cost costs most small =
@@ -225,11 +225,11 @@ module _ (pages : PageBytes) (table : ℕ) (entry : CatalogueEntry) (leaves : Li
       some_left [] none = absurd (real leaves whole.run.linked spot.front spot.here spot.back spot.whole (sym none))
       some_left (l ∷ ls) same = omega arith
 
-  module _ (pages1 : PageBytes) (value : List ℕ) (other : Option ℕ) (placed : IsPlaced pages pages1 table spot.front spot.here spot.back key value other) where
+  module _ (pages1 : PageBytes) (value : List ℕ) (other : Option ℕ) (placed : PutsRowInLeaf pages pages1 table spot.front spot.here spot.back key value other) where
     pub put_changed : IsChangedRun pages1 table spot.front placed.parts spot.back before page other
     put_changed = changed pages1 placed.parts other placed.rewrites.run placed.are
 
-    pub put_settled : (pages2 : PageBytes) (entry2 : CatalogueEntry) (joined taken new : ℕ) → IsSettled pages1 pages2 table (spot.front ++ (placed.parts ++ spot.back)) joined
+    pub put_settled : (pages2 : PageBytes) (entry2 : CatalogueEntry) (joined taken new : ℕ) → JoinsLeaves pages1 pages2 table (spot.front ++ (placed.parts ++ spot.back)) joined
         → entry2.root ≡ entry.root → (entry.pages ≤ 65536 → entry2.pages ≡ (entry.pages + leaves_added other) - joined) → (entry.cost + new < 2 ^ 64 → entry2.cost ≡ (entry.cost - taken) + new)
         → rows_cost (put by_bytes key value (run_rows leaves)) + taken ≡ rows_cost (run_rows leaves) + new → taken ≤ rows_cost (run_rows leaves) → new ≤ 1764
         → IsTakenRun pages pages2 table (put by_bytes key value (run_rows leaves)) entry2
@@ -247,15 +247,15 @@ module _ (pages : PageBytes) (table : ℕ) (entry : CatalogueEntry) (leaves : Li
     pub taken_changed : IsChangedRun pages1 table spot.front taken_here spot.back before page None
     taken_changed = changed pages1 taken_here None rewrites.run taken_are
 
-    pub taken_settled : (pages2 : PageBytes) (entry2 : CatalogueEntry) (joined taken : ℕ) → IsSettled pages1 pages2 table (spot.front ++ (taken_here ++ spot.back)) joined
+    pub taken_settled : (pages2 : PageBytes) (entry2 : CatalogueEntry) (joined taken : ℕ) → JoinsLeaves pages1 pages2 table (spot.front ++ (taken_here ++ spot.back)) joined
         → entry2.root ≡ entry.root → (entry.pages ≤ 65536 → entry2.pages ≡ (entry.pages + 0) - joined) → (entry.cost + 0 < 2 ^ 64 → entry2.cost ≡ (entry.cost - taken) + 0)
         → rows_cost (without key (run_rows leaves)) + taken ≡ rows_cost (run_rows leaves) → IsTakenRun pages pages2 table (without key (run_rows leaves)) entry2
     taken_settled pages2 entry2 joined taken settled root count cost costs =
         settled_entry pages1 pages2 taken_here None (without key (run_rows leaves)) entry2 joined taken 0 rewrites.others taken_are taken_parts settled root count cost (omega arith) (omega arith) (omega arith)
 
 -- a row was put
-pub put_ends : (pages pages1 pages2 : PageBytes) (table : ℕ) (entry entry2 : CatalogueEntry) (leaves : List Leaf) (whole : IsWholeRun pages table entry leaves) (key value : List ℕ) (before : Option ℕ) (page cost : ℕ) (found : IsFound leaves key before page cost)
-    (other : Option ℕ) (placed : IsPlaced pages pages1 table found.spot.front found.spot.here found.spot.back key value other) (joined new : ℕ) → IsSettled pages1 pages2 table (found.spot.front ++ (placed.parts ++ found.spot.back)) joined
+pub put_ends : (pages pages1 pages2 : PageBytes) (table : ℕ) (entry entry2 : CatalogueEntry) (leaves : List Leaf) (whole : IsWholeRun pages table entry leaves) (key value : List ℕ) (before : Option ℕ) (page cost : ℕ) (found : FindsSpot leaves key before page cost)
+    (other : Option ℕ) (placed : PutsRowInLeaf pages pages1 table found.spot.front found.spot.here found.spot.back key value other) (joined new : ℕ) → JoinsLeaves pages1 pages2 table (found.spot.front ++ (placed.parts ++ found.spot.back)) joined
     → entry2.root ≡ entry.root → (entry.pages ≤ 65536 → entry2.pages ≡ (entry.pages + leaves_added other) - joined) → (entry.cost + new < 2 ^ 64 → entry2.cost ≡ (entry.cost - cost) + new) → new ≡ 8 + length key + length value → new ≤ 1764
     → IsTakenRun pages pages2 table (put by_bytes key value (run_rows leaves)) entry2
 put_ends pages pages1 pages2 table entry entry2 leaves whole key value before page cost found other placed joined new settled root count costs new_is small =
@@ -265,9 +265,9 @@ put_ends pages pages1 pages2 table entry entry2 leaves whole key value before pa
     put_settled pages table entry leaves whole key before page found.spot pages1 value other placed pages2 entry2 joined cost new settled root count costs (omega arith) (omega arith) small
 
 -- a row was taken out
-pub taken_ends : (pages pages1 pages2 : PageBytes) (table : ℕ) (entry entry2 : CatalogueEntry) (leaves : List Leaf) (whole : IsWholeRun pages table entry leaves) (key : List ℕ) (before : Option ℕ) (page cost : ℕ) (found : IsFound leaves key before page cost)
+pub taken_ends : (pages pages1 pages2 : PageBytes) (table : ℕ) (entry entry2 : CatalogueEntry) (leaves : List Leaf) (whole : IsWholeRun pages table entry leaves) (key : List ℕ) (before : Option ℕ) (page cost : ℕ) (found : FindsSpot leaves key before page cost)
     (rewrites : Rewrites pages pages1 table (found.spot.front ++ record { page = found.spot.here.page; rows = without key found.spot.here.rows } ∷ found.spot.back)) (joined : ℕ)
-    → IsSettled pages1 pages2 table (found.spot.front ++ record { page = found.spot.here.page; rows = without key found.spot.here.rows } ∷ found.spot.back) joined
+    → JoinsLeaves pages1 pages2 table (found.spot.front ++ record { page = found.spot.here.page; rows = without key found.spot.here.rows } ∷ found.spot.back) joined
     → entry2.root ≡ entry.root → (entry.pages ≤ 65536 → entry2.pages ≡ (entry.pages + 0) - joined) → (entry.cost + 0 < 2 ^ 64 → entry2.cost ≡ (entry.cost - cost) + 0)
     → IsTakenRun pages pages2 table (without key (run_rows leaves)) entry2
 taken_ends pages pages1 pages2 table entry entry2 leaves whole key before page cost found rewrites joined settled root count costs =

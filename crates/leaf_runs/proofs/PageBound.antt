@@ -20,8 +20,8 @@ use Rattle.mdb_bytes.specs.TablePages.{Row, RowLeaf, row_cost, rows_cost}
 use Rattle.mdb_bytes.specs.Forms.{Neighbours}
 use Rattle.mdb_bytes.specs.Paged.{PageBytes}
 use Rattle.mdb_bytes.proofs.NextRow.{place_total, place_exact}
-use Rattle.leaf_runs.specs.Leaves.{by_bytes}
-use Rattle.leaf_runs.specs.Runs.{Leaf, run_rows, FillTwo, IsChain, IsTableRun, AreRuns, rows_of}
+use Rattle.row_page.specs.Entries.{by_bytes}
+use Rattle.leaf_runs.specs.Runs.{Leaf, run_rows, LeavesFillTwo, IsChain, IsTableRun, AreRuns, rows_in_pages}
 use Rattle.leaf_runs.proofs.RowLists.{t_left, t_right, t_both}
 use Rattle.leaf_runs.proofs.LeafLaw.{few_rows}
 use Rattle.leaf_runs.proofs.RowsLaw.{find_inside, leaf_has, leaf_lacks}
@@ -33,7 +33,7 @@ pub rows_cost-append : (a b : List Row) → rows_cost (a ++ b) ≡ rows_cost a +
 rows_cost-append a b = sum_by-append row_cost a b
 
 -- two neighbours fill more than a page
-half : (l : Leaf) (ls : List Leaf) → Neighbours FillTwo (l ∷ ls) → 8129 * length ls + rows_cost l.rows ≤ 2 * rows_cost (run_rows (l ∷ ls))
+half : (l : Leaf) (ls : List Leaf) → Neighbours LeavesFillTwo (l ∷ ls) → 8129 * length ls + rows_cost l.rows ≤ 2 * rows_cost (run_rows (l ∷ ls))
 half l [] filled = let c = rows_cost-append l.rows [] in omega arith
 half l (m ∷ ls) filled =
     let more = half m ls filled.1 in
@@ -62,7 +62,7 @@ over n cost some small large = by_zero (cost == 0) refl where
   by_zero false e = by_small (nat_le cost 8128) refl
 
 -- this many leaves where the rows cost no more than this
-pub leaf_bound : (pages : PageBytes) (table cost : ℕ) (leaves : List Leaf) → IsChain pages table leaves → Neighbours FillTwo leaves → rows_cost (run_rows leaves) ≤ cost → length leaves ≤ table_pages cost
+pub leaf_bound : (pages : PageBytes) (table cost : ℕ) (leaves : List Leaf) → IsChain pages table leaves → Neighbours LeavesFillTwo leaves → rows_cost (run_rows leaves) ≤ cost → length leaves ≤ table_pages cost
 leaf_bound pages table cost [] chain filled le = omega arith
 leaf_bound pages table cost (l ∷ []) chain filled le =
     let some = few_rows l.rows in
@@ -77,7 +77,7 @@ leaf_bound pages table cost (l ∷ m ∷ ls) chain filled le =
 
 -- The cost of a table
 
-abbrev placed : ℕ → Row → Place × List ℕ
+abbrev pub placed : ℕ → Row → Place × List ℕ
 placed t row = let e : Place × List ℕ = ((t, row.0), row.1) in e
 
 abbrev leaf_for : ℕ → RowLeaf
@@ -88,7 +88,7 @@ below_placed t k [] p = tt
 below_placed t k (x ∷ xs) p =
     t_both _ _ (subst (λ (o : Ordering). T (is_lt (ordering_then o (by_bytes k x.0)))) (sym (tied_itself nat_cmp_total t)) (t_left _ _ p)) (below_placed t k xs (t_right _ _ p))
 
-sorted_placed : (t : ℕ) (rows : List Row) → T (is_sorted by_bytes rows) → T (is_sorted place_cmp (map (placed t) rows))
+pub sorted_placed : (t : ℕ) (rows : List Row) → T (is_sorted by_bytes rows) → T (is_sorted place_cmp (map (placed t) rows))
 sorted_placed t [] up = tt
 sorted_placed t (x ∷ xs) up = t_both _ _ (below_placed t x.0 xs (t_left _ _ up)) (sorted_placed t xs (t_right _ _ up))
 
@@ -154,8 +154,8 @@ module _ (rows : Tables) (t : ℕ) (run : List Row) (up : T (is_sorted by_bytes 
       omega arith
 
 pub page_bound : (pages : PageBytes) (r : AreRuns pages) (table : ℕ) (entry : CatalogueEntry) → 1 ≤ table → table ≤ 500 → IsTableRun pages table entry (r.runs table)
-    → entry.pages ≤ table_pages (table_cost (rows_of pages) (rows_of pages) table)
+    → entry.pages ≤ table_pages (table_cost (rows_in_pages pages) (rows_in_pages pages) table)
 page_bound pages r table entry low high run =
-    let cost = cost_of_table (rows_of pages) table (run_rows (r.runs table)) run.in_order (λ k. row_there pages r table k low high) in
-    subst (λ (n : ℕ). n ≤ table_pages (table_cost (rows_of pages) (rows_of pages) table)) (sym run.count)
-    (leaf_bound pages table (table_cost (rows_of pages) (rows_of pages) table) (r.runs table) run.linked run.filled cost)
+    let cost = cost_of_table (rows_in_pages pages) table (run_rows (r.runs table)) run.in_order (λ k. row_there pages r table k low high) in
+    subst (λ (n : ℕ). n ≤ table_pages (table_cost (rows_in_pages pages) (rows_in_pages pages) table)) (sym run.count)
+    (leaf_bound pages table (table_cost (rows_in_pages pages) (rows_in_pages pages) table) (r.runs table) run.linked run.filled cost)

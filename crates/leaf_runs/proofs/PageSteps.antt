@@ -14,8 +14,7 @@ use Rattle.mdb_bytes.specs.PageReadings.{row_leaf_of}
 use Rattle.mdb_bytes.specs.Paged.{PageBytes}
 use Rattle.leaf_runs.specs.Runs.{leaf_at}
 use Rattle.leaf_runs.specs.Edits.{IsPut, Splits, Joins}
-use Rattle.leaf_runs.specs.Leaves.{by_bytes}
-use Rattle.row_page.specs.Entries.{IsPage, head_of, entries_of}
+use Rattle.row_page.specs.Entries.{IsPage, page_head_of, entries_of, by_bytes}
 use Rattle.leaf_runs.proofs.LeafEdits.{made}
 use Rattle.leaf_runs.specs.Steps.{SetsLeaf, IsPutOn, IsNewLeaf, IsNamedAt, StaysBeside, IsSplitOff, IsJoinedTo}
 
@@ -101,7 +100,7 @@ not_live pages page is = by_option (get pages page) is where
   by_option (Some b) e = absurd cc
 
 pub new_leaf_made : (pages pages2 pages3 : PageBytes) (table page : ℕ) (old bytes : List ℕ) → is_some (get pages page) ≡ false → page ≤ 65535 → pages2 ≡ insert pages page old → pages3 ≡ insert pages2 page bytes
-    → IsTrue (is_table table) → IsPage bytes → head_of bytes ≡ record { kind = 1; level = 0; table = table; own = page; next = 0 } → entries_of bytes ≡ [] → IsNewLeaf pages pages3 table page
+    → IsTrue (is_table table) → IsPage bytes → page_head_of bytes ≡ record { kind = 1; level = 0; table = table; own = page; next = 0 } → entries_of bytes ≡ [] → IsNewLeaf pages pages3 table page
 new_leaf_made pages pages2 pages3 table page old bytes fresh small is2 is3 valid page_of head entries = record {
   fresh = not_live pages page fresh;
   small = small;

@@ -19,12 +19,13 @@ use Rattle.mdb_bytes.specs.Parts.{page_room}
 use Rattle.mdb_bytes.specs.TablePages.{Row, RowLeaf, row_cost, rows_cost}
 use Rattle.mdb_bytes.specs.PageReadings.{catalogue_of}
 use Rattle.mdb_bytes.specs.Paged.{PageBytes, is_live}
-use Rattle.leaf_runs.specs.Leaves.{by_bytes, all_below}
+use Rattle.row_page.specs.Entries.{by_bytes}
+use Rattle.leaf_runs.specs.Leaves.{all_below}
 use Rattle.leaf_runs.specs.Behind.{not_behind, IsCut}
 use Rattle.leaf_runs.specs.Edits.{with_rows, without}
 use Rattle.leaf_runs.specs.Runs.{Leaf, run_rows, first_page, leaf_at, leaf_value, catalogue_at, AreRuns}
 use Rattle.leaf_runs.specs.Steps.{SetsLeaf, HasLeaf, IsPutOn, StaysBeside, IsNewLeaf, IsSplitOff, IsNamedAt, MaySplit}
-use Rattle.leaf_runs.specs.Loose.{LeafIsAt, IsLooseRun, Rewrites, IsRound, IsPlaced, HasHere, HasSpot}
+use Rattle.leaf_runs.specs.Loose.{LeafIsAt, IsLooseRun, Rewrites, IsRound, PutsRowInLeaf, HasHere, HasSpot}
 use Rattle.leaf_runs.specs.Halves.{IsPlaceOn, IsCutOff, AreHalves, IsPutOnOne}
 use Rattle.leaf_runs.proofs.RowLists.{t_left, t_right, t_both, from_true, to_true, turned, put-front, put-back}
 use Rattle.leaf_runs.proofs.Places.{bytes_of_leaf, leaf_there, some_same}
@@ -202,7 +203,7 @@ module _ (pages : PageBytes) (table page : ℕ) (front : List Leaf) (here : Leaf
 
   -- a row put into the leaf
   pub placed_whole : (pages2 : PageBytes) (leaf : RowLeaf) (key value : List ℕ) → IsRound front key back → leaf_at pages page ≡ Some leaf → IsPutOn true pages pages2 page leaf key value
-      → IsPlaced pages pages2 table front here back key value None
+      → PutsRowInLeaf pages pages2 table front here back key value None
   placed_whole pages2 leaf key value round there sets =
       let here2 : Leaf = record { page = here.page; rows = put by_bytes key value here.rows } in
       let rows : run_rows (here2 ∷ []) ≡ put by_bytes key value here.rows = append-nil (put by_bytes key value here.rows) in record {
@@ -409,7 +410,7 @@ module _ (pages pages2 : PageBytes) (table page : ℕ) (front : List Leaf) (here
       ]
 
       -- the row is in one of the two
-      pub placed_split : IsPlaced pages pages4 table front here back key value (Some other)
+      pub placed_split : PutsRowInLeaf pages pages4 table front here back key value (Some other)
       placed_split =
           let a : Leaf = record { page = here.page; rows = placed.rows } in
           let b : Leaf = record { page = other; rows = placed.rows2 } in record {

@@ -11,7 +11,7 @@ use Rattle.std.specs.Ordering.{is_eq}
 use Rattle.std.specs.FinMap.{find, put, is_sorted, slice_cmp-IsAntisymmetric, nat_cmp-IsAntisymmetric}
 use Rattle.std.specs.FinMap.Entries.{below_all, by_order}
 use Rattle.mdb_bytes.specs.TablePages.{Row, row_cost, rows_cost}
-use Rattle.leaf_runs.specs.Leaves.{by_bytes}
+use Rattle.row_page.specs.Entries.{by_bytes}
 use Rattle.leaf_runs.specs.Edits.{without}
 use Rattle.leaf_runs.proofs.RowLists.{t_left, t_right, below_through, find-none, without-back}
 use Rattle.leaf_runs.proofs.LeafLaw.{few_rows}

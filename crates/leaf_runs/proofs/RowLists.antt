@@ -9,7 +9,8 @@ use Rattle.std.specs.Cmp.Lexicographic.{nat_list_cmp_total}
 use Rattle.std.specs.FinMap.{find, put, is_sorted}
 use Rattle.std.specs.FinMap.Entries.{below_all, where_key, by_order}
 use Rattle.mdb_bytes.specs.TablePages.{Row}
-use Rattle.leaf_runs.specs.Leaves.{by_bytes, all_below}
+use Rattle.row_page.specs.Entries.{by_bytes}
+use Rattle.leaf_runs.specs.Leaves.{all_below}
 
 pub t_left : (a b : Bool) → T (a && b) → T a
 t_left true b p = tt

@@ -18,8 +18,8 @@ use Rattle.mdb_bytes.specs.PageReadings.{row_leaf_of, leaf_rows, rows_on}
 use Rattle.mdb_bytes.specs.Paged.{PageBytes}
 use Rattle.mdb_bytes.proofs.Decoding.{and_left, and_right}
 use Rattle.mdb_bytes.proofs.NextRow.{find-below, place_total}
-use Rattle.leaf_runs.specs.Leaves.{by_bytes}
-use Rattle.leaf_runs.specs.Runs.{Leaf, run_rows, first_page, leaf_at, leaf_value, LeafStands, IsChain, rows_of}
+use Rattle.row_page.specs.Entries.{by_bytes}
+use Rattle.leaf_runs.specs.Runs.{Leaf, run_rows, first_page, leaf_at, leaf_value, LeafStands, IsChain, rows_in_pages}
 use Rattle.leaf_runs.proofs.RowLists.{t_left, t_right}
 use Rattle.leaf_runs.proofs.LeafLaw.{leaf_page_of}
 use Rattle.leaf_runs.proofs.Chains.{run_rows-append}
@@ -60,7 +60,7 @@ leaf_lacks leaf t k (row ∷ rows) other = by_order (leaf_lacks leaf t k rows ot
   by_order more Equal is = absurd (other (sym (nat_cmp-IsAntisymmetric t leaf.table is)))
 
 -- a row on a page is one of the leaf that it spells
-on_page : (bytes : List ℕ) (t : ℕ) (k v : List ℕ) → find place_cmp (t, k) (rows_on bytes) ≡ Some v → (leaf : RowLeaf) × (row_leaf_of bytes ≡ Some leaf) × (leaf.table ≡ t) × (find by_bytes k leaf.rows ≡ Some v)
+pub on_page : (bytes : List ℕ) (t : ℕ) (k v : List ℕ) → find place_cmp (t, k) (rows_on bytes) ≡ Some v → (leaf : RowLeaf) × (row_leaf_of bytes ≡ Some leaf) × (leaf.table ≡ t) × (find by_bytes k leaf.rows ≡ Some v)
 on_page bytes t k v is = by_leaf (row_leaf_of bytes) refl is where
   by_table : (leaf : RowLeaf) → row_leaf_of bytes ≡ Some leaf → find place_cmp (t, k) (leaf_rows leaf) ≡ Some v → (b : Bool) → eq_by_cmp nat_cmp leaf.table t ≡ b → (leaf : RowLeaf) × (row_leaf_of bytes ≡ Some leaf) × (leaf.table ≡ t) × (find by_bytes k leaf.rows ≡ Some v)
   by_table leaf there is true e = let same : leaf.table ≡ t = nat_cmp-IsAntisymmetric leaf.table t (equal _ e) in (leaf, there, same, sym (leaf_has leaf t k leaf.rows same) ∙ is)
@@ -78,14 +78,14 @@ page_has bytes leaf t k there same = ap (λ (o : Option RowLeaf). find place_cmp
 
 -- All pages
 
-abbrev page_rows : List (ℕ × List ℕ) → List (Place × List ℕ)
+abbrev pub page_rows : List (ℕ × List ℕ) → List (Place × List ℕ)
 page_rows es = flat_map rows_on (map (λ (e : ℕ × List ℕ). e.1) es)
 
-page_rows-cons : (q : Place) (e : ℕ × List ℕ) (es : List (ℕ × List ℕ)) → find place_cmp q (page_rows (e ∷ es)) ≡ or_else (find place_cmp q (rows_on e.1)) (find place_cmp q (page_rows es))
+pub page_rows-cons : (q : Place) (e : ℕ × List ℕ) (es : List (ℕ × List ℕ)) → find place_cmp q (page_rows (e ∷ es)) ≡ or_else (find place_cmp q (rows_on e.1)) (find place_cmp q (page_rows es))
 page_rows-cons q e es = ap (find place_cmp q) (flat_map-cons rows_on e.1 (map (λ (e : ℕ × List ℕ). e.1) es)) ∙ find-append place_cmp q (rows_on e.1) (page_rows es)
 
 -- a row of all pages is one of a page
-from_page : (q : Place) (v : List ℕ) (es : List (ℕ × List ℕ)) → T (is_sorted nat_cmp es) → find place_cmp q (page_rows es) ≡ Some v
+pub from_page : (q : Place) (v : List ℕ) (es : List (ℕ × List ℕ)) → T (is_sorted nat_cmp es) → find place_cmp q (page_rows es) ≡ Some v
     → (n : ℕ) × (bytes : List ℕ) × (find nat_cmp n es ≡ Some bytes) × (find place_cmp q (rows_on bytes) ≡ Some v)
 from_page q v [] up is = absurd cc
 from_page q v (e ∷ es) up is = by_first (from_page q v es (t_right _ _ up)) (find place_cmp q (rows_on e.1)) refl (sym (page_rows-cons q e es) ∙ is) where
@@ -157,11 +157,11 @@ pub record AreChains (pages : PageBytes) (runs : ℕ → List Leaf) : Type 0 whe
   pub named : (number : ℕ) (leaf : RowLeaf) → leaf_at pages number ≡ Some leaf → Contains (map (λ leaf. leaf.page) (runs leaf.table)) number
 
 module _ (pages : PageBytes) (runs : ℕ → List Leaf) (r : AreChains pages runs) where
-  rows_are : (q : Place) → get (rows_of pages) q ≡ find place_cmp q (page_rows (entries pages))
+  rows_are : (q : Place) → get (rows_in_pages pages) q ≡ find place_cmp q (page_rows (entries pages))
   rows_are q = get-from_entries place_total (page_rows (entries pages)) q
 
   -- a row that is there stands on a leaf of its table
-  there_on : (t : ℕ) (k v : List ℕ) → find place_cmp (t, k) (page_rows (entries pages)) ≡ Some v
+  pub there_on : (t : ℕ) (k v : List ℕ) → find place_cmp (t, k) (page_rows (entries pages)) ≡ Some v
       → (n : ℕ) × (leaf : RowLeaf) × (leaf_at pages n ≡ Some leaf) × (leaf.table ≡ t) × (find by_bytes k leaf.rows ≡ Some v) × ((1 ≤ t) × (t ≤ 500))
   there_on t k v is =
       let p = from_page (t, k) v (entries pages) (entries_sorted pages) is in
@@ -171,7 +171,7 @@ module _ (pages : PageBytes) (runs : ℕ → List Leaf) (r : AreChains pages run
       let high = leb-true l.0.table 500 (and_right (nat_le 1 l.0.table) _ table) in
       (p.0, l.0, leaf_there pages p.0 p.1 l.0 (get-entries pages p.0 ∙ p.2) l.1, l.2, l.3, (subst (λ (n : ℕ). 1 ≤ n) l.2 low, subst (λ (n : ℕ). n ≤ 500) l.2 high))
 
-  pub row_law : (t : ℕ) (k : List ℕ) → 1 ≤ t → t ≤ 500 → get (rows_of pages) (t, k) ≡ find by_bytes k (run_rows (runs t))
+  pub row_law : (t : ℕ) (k : List ℕ) → 1 ≤ t → t ≤ 500 → get (rows_in_pages pages) (t, k) ≡ find by_bytes k (run_rows (runs t))
   row_law t k low high = rows_are (t, k) ∙ by_row (find place_cmp (t, k) (page_rows (entries pages))) refl where
     chain : IsChain pages t (runs t) × T (is_sorted by_bytes (run_rows (runs t)))
     chain = r.linked t low high
@@ -196,7 +196,7 @@ module _ (pages : PageBytes) (runs : ℕ → List Leaf) (r : AreChains pages run
         let parts : run_rows (runs t) ≡ run_rows on.0 ++ (on.1.rows ++ run_rows on.2) = ap run_rows on.3 ∙ run_rows-append on.0 (on.1 ∷ on.2) in
         sym (ap (find by_bytes k) parts ∙ find_inside k v (run_rows on.0) on.1.rows (run_rows on.2) (subst (λ (rs : List Row). T (is_sorted by_bytes rs)) parts chain.1) here)
 
-  pub no_other_rows : (t : ℕ) (k : List ℕ) → ((1 ≤ t) × (t ≤ 500) → ⊥) → get (rows_of pages) (t, k) ≡ None
+  pub no_other_rows : (t : ℕ) (k : List ℕ) → ((1 ≤ t) × (t ≤ 500) → ⊥) → get (rows_in_pages pages) (t, k) ≡ None
   no_other_rows t k other = rows_are (t, k) ∙ by_row (find place_cmp (t, k) (page_rows (entries pages))) refl where
     by_row : (o : Option (List ℕ)) → find place_cmp (t, k) (page_rows (entries pages)) ≡ o → o ≡ None
     by_row None none = refl

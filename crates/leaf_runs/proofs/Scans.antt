@@ -13,18 +13,19 @@ use Rattle.std.specs.Cmp.Lexicographic.{nat_list_cmp_total}
 use Rattle.std.specs.FinMap.{find, is_sorted, slice_cmp-IsAntisymmetric, nat_cmp-IsAntisymmetric}
 use Rattle.std.specs.FinMap.Entries.{below_all}
 use Rattle.mdb_bytes.specs.TablePages.{Row}
+use Rattle.row_page.specs.Entries.{by_bytes}
 use Rattle.sorted_places.specs.Search.{IsAt, IsGap}
 use Rattle.sorted_places.specs.First.{IsFirst}
 use Rattle.sorted_places.proofs.NextRow.{before-less, less-before}
-use Rattle.leaf_runs.specs.Leaves.{by_bytes, key_of, all_below}
-use Rattle.leaf_runs.specs.Behind.{not_behind, IsCut, IsBehind}
+use Rattle.leaf_runs.specs.Leaves.{key_of_row, all_below}
+use Rattle.leaf_runs.specs.Behind.{not_behind, IsCut, IsFirstAfter}
 use Rattle.leaf_runs.proofs.RowLists.{t_left, t_right, t_both, is_less, from_true, to_true, turned, below_through, find-none, sorted_right, first_less, rest_less}
 
 not_greater : (o : Ordering) → o ≡ Less → not (is_gt o) ≡ true
 not_greater o e = ap (λ x. not (is_gt x)) e
 
 -- where a key stands, or would stand
-pub cut_gap : (rows : List Row) (after : List ℕ) (i : ℕ) → IsGap by_bytes key_of rows after i → T (is_sorted by_bytes rows) → IsCut rows after i
+pub cut_gap : (rows : List Row) (after : List ℕ) (i : ℕ) → IsGap by_bytes key_of_row rows after i → T (is_sorted by_bytes rows) → IsCut rows after i
 cut_gap rows after i gap up = record { within = gap.in_range; lower = lows rows i gap.lower_before gap.in_range; higher = highs rows i gap.greater_after gap.in_range } where
   lows : (xs : List Row) (i : ℕ) → ((j : ℕ) (d : Row) → j < i → by_bytes (get_or xs j d).0 after ≡ Less) → i ≤ length xs → not_behind after (take i xs) ≡ true
   lows [] zero h le = refl
@@ -39,7 +40,7 @@ cut_gap rows after i gap up = record { within = gap.in_range; lower = lows rows 
       t_both _ _ (subst (λ (o : Ordering). T (is_lt o)) (sym (turned x.0 after Greater (h 0 x (omega arith) (omega arith)))) tt) (highs xs zero (λ j d from lt. h (suc j) d (omega arith) (omega arith)) (omega arith))
   highs (x ∷ xs) (suc i) h le = highs xs i (λ j d from lt. h (suc j) d (omega arith) (omega arith)) (omega arith)
 
-pub cut_at : (rows : List Row) (after : List ℕ) (i : ℕ) → IsAt by_bytes key_of rows after i → T (is_sorted by_bytes rows) → IsCut rows after (i + 1)
+pub cut_at : (rows : List Row) (after : List ℕ) (i : ℕ) → IsAt by_bytes key_of_row rows after i → T (is_sorted by_bytes rows) → IsCut rows after (i + 1)
 cut_at rows after i at up =
     let one : i + 1 ≡ suc i = omega arith in
     subst (IsCut rows after) (sym one) (record { within = (let w = at.in_range in omega arith); lower = lows rows i at.lower_before (at.same_here) at.in_range; higher = highs rows i up at.same_here at.in_range })
@@ -66,7 +67,7 @@ cut_at rows after i at up =
     highs (x ∷ xs) (suc i) up e lt = highs xs i (t_right _ _ up) e (omega arith)
 
 -- the row at the cut
-pub behind_at : (rows : List Row) (after : List ℕ) (at : ℕ) (key value : List ℕ) → IsCut rows after at → slice_get rows at ≡ Some (key, value) → IsBehind true rows after key value
+pub behind_at : (rows : List Row) (after : List ℕ) (at : ℕ) (key value : List ℕ) → IsCut rows after at → slice_get rows at ≡ Some (key, value) → IsFirstAfter true rows after key value
 behind_at rows after at key value cut got = (
   take at rows,
   drop (suc at) rows,
@@ -82,7 +83,7 @@ behind_at rows after at key value cut got = (
     all_left (y ∷ ys) = refl
   opened (x ∷ xs) (suc i) got = opened xs i got
 
-pub behind_none : (rows : List Row) (after : List ℕ) (at : ℕ) (key value : List ℕ) → IsCut rows after at → length rows ≤ at → IsBehind false rows after key value
+pub behind_none : (rows : List Row) (after : List ℕ) (at : ℕ) (key value : List ℕ) → IsCut rows after at → length rows ≤ at → IsFirstAfter false rows after key value
 behind_none rows after at key value cut over = subst (λ (t : List Row). not_behind after t ≡ true) (all rows at over) cut.lower where
   all : (xs : List Row) (i : ℕ) → length xs ≤ i → take i xs ≡ xs
   all [] zero le = refl

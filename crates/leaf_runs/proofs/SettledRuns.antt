@@ -9,8 +9,8 @@ use Rattle.mdb_bytes.specs.Parts.{page_room}
 use Rattle.mdb_bytes.specs.TablePages.{Row, rows_cost}
 use Rattle.mdb_bytes.specs.Forms.{Neighbours}
 use Rattle.mdb_bytes.specs.Paged.{PageBytes}
-use Rattle.leaf_runs.specs.Runs.{Leaf, run_rows, first_page, last_page, FillTwo, LeafStands, IsChain}
-use Rattle.leaf_runs.specs.Loose.{LeafIsAt, IsLooseChain, IsLooseRun, Rewrites, HasHere, IsChangedRun, IsSettled}
+use Rattle.leaf_runs.specs.Runs.{Leaf, run_rows, first_page, last_page, LeavesFillTwo, LeafStands, IsChain}
+use Rattle.leaf_runs.specs.Loose.{LeafIsAt, IsLooseChain, IsLooseRun, Rewrites, HasHere, IsChangedRun, JoinsLeaves}
 use Rattle.leaf_runs.specs.Tries.{IsOptionTry, HasOptionHere}
 use Rattle.leaf_runs.proofs.Chains.{run_rows-append}
 use Rattle.leaf_runs.proofs.LooseRuns.{rewrites_on}
@@ -29,7 +29,7 @@ module _ (pages : PageBytes) (table : ℕ) where
   stands leaf next at some = record { there = at.there; real = at.real; small = at.small; has_rows = some }
 
   -- of two neighbours that fill more than a page, none is without rows
-  each_stands : (a : Leaf) (leaves : List Leaf) → 0 < length a.rows → IsLooseChain pages table (a ∷ leaves) → Neighbours FillTwo (a ∷ leaves) → IsChain pages table (a ∷ leaves)
+  each_stands : (a : Leaf) (leaves : List Leaf) → 0 < length a.rows → IsLooseChain pages table (a ∷ leaves) → Neighbours LeavesFillTwo (a ∷ leaves) → IsChain pages table (a ∷ leaves)
   each_stands a [] some chain filled = (stands a 0 chain.0 some, tt)
   each_stands a (b ∷ leaves) some chain filled =
       let fills : page_room < rows_cost a.rows + rows_cost b.rows = filled.0 in
@@ -37,7 +37,7 @@ module _ (pages : PageBytes) (table : ℕ) where
       (stands a b.page chain.0 some, each_stands b leaves (some_rows b.rows (omega arith)) chain.1 filled.1)
 
   -- a settled run that has rows is a chain of leaves with rows
-  pub settled_stands : (leaves : List Leaf) → IsLooseRun pages table leaves → Neighbours FillTwo leaves → 0 < length (run_rows leaves) → IsChain pages table leaves
+  pub settled_stands : (leaves : List Leaf) → IsLooseRun pages table leaves → Neighbours LeavesFillTwo leaves → 0 < length (run_rows leaves) → IsChain pages table leaves
   settled_stands [] run filled some = tt
   settled_stands (a ∷ []) run filled some = each_stands a [] (omega (arith, length-append a.rows (run_rows []))) run.linked filled
   settled_stands (a ∷ b ∷ leaves) run filled some =
@@ -46,7 +46,7 @@ module _ (pages : PageBytes) (table : ℕ) where
       each_stands a (b ∷ leaves) (some_rows a.rows (omega arith)) run.linked filled
 
   -- a settled run without rows has one leaf at most
-  pub settled_empty : (leaves : List Leaf) → IsLooseRun pages table leaves → Neighbours FillTwo leaves → run_rows leaves ≡ [] → length leaves ≤ 1
+  pub settled_empty : (leaves : List Leaf) → IsLooseRun pages table leaves → Neighbours LeavesFillTwo leaves → run_rows leaves ≡ [] → length leaves ≤ 1
   settled_empty [] run filled none = omega arith
   settled_empty (a ∷ []) run filled none = omega arith
   settled_empty (a ∷ b ∷ leaves) run filled none =
@@ -64,7 +64,7 @@ pub record IsTried (pages pages2 : PageBytes) (table : ℕ) (front tail : List L
   pub rewrites : Rewrites pages pages2 table (front ++ tail2)
   pub rows : run_rows tail2 ≡ run_rows tail
   pub begins : first_page tail2 ≡ first_page tail
-  pub filled : Neighbours FillTwo tail2
+  pub filled : Neighbours LeavesFillTwo tail2
   pub count : length tail2 + joined ≡ length tail
 
 -- the leaves after the first one of a change were tried
@@ -100,7 +100,7 @@ module _ (pages : PageBytes) (table : ℕ) where
 
 module _ (pages pages2 : PageBytes) (table : ℕ) where
   -- no leaf was tried
-  tried_none : (front back : List Leaf) (joined : ℕ) → IsLooseRun pages table (front ++ back) → Neighbours FillTwo back → (pages2 ≡ pages) × (joined ≡ 0) → IsTried pages pages2 table front back joined
+  tried_none : (front back : List Leaf) (joined : ℕ) → IsLooseRun pages table (front ++ back) → Neighbours LeavesFillTwo back → (pages2 ≡ pages) × (joined ≡ 0) → IsTried pages pages2 table front back joined
   tried_none front back joined run filled same = record {
     tail2 = back;
     rewrites = rewrites_same pages pages2 table (front ++ back) same.0 run;
@@ -111,7 +111,7 @@ module _ (pages pages2 : PageBytes) (table : ℕ) where
   }
 
   -- one leaf was
-  tried_one : (front : List Leaf) (here : Leaf) (back : List Leaf) (page joined : ℕ) → IsLooseRun pages table (front ++ here ∷ back) → here.page ≡ page → Neighbours FillTwo back → IsOptionTry pages pages2 table (Some page) joined
+  tried_one : (front : List Leaf) (here : Leaf) (back : List Leaf) (page joined : ℕ) → IsLooseRun pages table (front ++ here ∷ back) → here.page ≡ page → Neighbours LeavesFillTwo back → IsOptionTry pages pages2 table (Some page) joined
       → IsTried pages pages2 table front (here ∷ back) joined
   tried_one front here back page joined run page_is filled try =
       let w = try front here back run page_is filled in
@@ -188,7 +188,7 @@ module _ (pages pages2 : PageBytes) (table : ℕ) where
 
   module _ (pages3 : PageBytes) (tail : List Leaf) (joined joined2 : ℕ) where
     -- there is no leaf before the change
-    settled_none : IsTried pages pages2 table [] tail joined → (pages3 ≡ pages2) × (joined2 ≡ 0) → IsSettled pages pages3 table tail (joined + joined2)
+    settled_none : IsTried pages pages2 table [] tail joined → (pages3 ≡ pages2) × (joined2 ≡ 0) → JoinsLeaves pages pages3 table tail (joined + joined2)
     settled_none t same = record {
       leaves2 = t.tail2;
       rewrites = rewrites_on pages pages2 pages3 table t.tail2 t.tail2 t.rewrites (rewrites_same pages2 pages3 table t.tail2 same.0 t.rewrites.run);
@@ -199,13 +199,13 @@ module _ (pages pages2 : PageBytes) (table : ℕ) where
     }
 
     -- there is one, and it was tried
-    settled_last : (ahead : List Leaf) (last : Leaf) → Neighbours FillTwo (ahead ++ last ∷ []) → IsTried pages pages2 table (ahead ++ last ∷ []) tail joined → IsOptionTry pages2 pages3 table (Some last.page) joined2
-        → IsSettled pages pages3 table ((ahead ++ last ∷ []) ++ tail) (joined + joined2)
+    settled_last : (ahead : List Leaf) (last : Leaf) → Neighbours LeavesFillTwo (ahead ++ last ∷ []) → IsTried pages pages2 table (ahead ++ last ∷ []) tail joined → IsOptionTry pages2 pages3 table (Some last.page) joined2
+        → JoinsLeaves pages pages3 table ((ahead ++ last ∷ []) ++ tail) (joined + joined2)
     settled_last ahead last filled t try =
         let run : IsLooseRun pages2 table (ahead ++ last ∷ t.tail2) = subst (IsLooseRun pages2 table) (append_assoc ahead (last ∷ []) t.tail2) t.rewrites.run in
         let w = try ahead last t.tail2 run refl t.filled in
         let j = w.2 in
-        subst (λ (ls : List Leaf). IsSettled pages pages3 table ls (joined + joined2)) (sym (append_assoc ahead (last ∷ []) tail)) (record {
+        subst (λ (ls : List Leaf). JoinsLeaves pages pages3 table ls (joined + joined2)) (sym (append_assoc ahead (last ∷ []) tail)) (record {
           leaves2 = ahead ++ j.here ∷ j.rest;
           rewrites = rewrites_on pages pages2 pages3 table ((ahead ++ last ∷ []) ++ t.tail2) (ahead ++ j.here ∷ j.rest) t.rewrites j.rewrites;
           rows = run_rows-append ahead (j.here ∷ j.rest) ∙ ap (λ (rs : List Row). run_rows ahead ++ rs) (j.rows ∙ ap (λ (rs : List Row). last.rows ++ rs) t.rows) ∙ sym (run_rows-append ahead (last ∷ tail));
@@ -215,15 +215,15 @@ module _ (pages pages2 : PageBytes) (table : ℕ) where
         })
 
     -- the last try, of the leaf before the change
-    pub settled_by : (front : List Leaf) (before : Option ℕ) → Neighbours FillTwo front → before ≡ last_page front → IsTried pages pages2 table front tail joined → IsOptionTry pages2 pages3 table before joined2
-        → IsSettled pages pages3 table (front ++ tail) (joined + joined2)
+    pub settled_by : (front : List Leaf) (before : Option ℕ) → Neighbours LeavesFillTwo front → before ≡ last_page front → IsTried pages pages2 table front tail joined → IsOptionTry pages2 pages3 table before joined2
+        → JoinsLeaves pages pages3 table (front ++ tail) (joined + joined2)
     settled_by front before filled before_is tried try = by_last (last_of front) where
-      by_last : (front ≡ []) ⊎ ((ahead : List Leaf) × (last : Leaf) × (front ≡ ahead ++ last ∷ []) × (last_page front ≡ Some last.page)) → IsSettled pages pages3 table (front ++ tail) (joined + joined2)
+      by_last : (front ≡ []) ⊎ ((ahead : List Leaf) × (last : Leaf) × (front ≡ ahead ++ last ∷ []) × (last_page front ≡ Some last.page)) → JoinsLeaves pages pages3 table (front ++ tail) (joined + joined2)
       by_last (inl none) =
-          subst (λ (ls : List Leaf). IsSettled pages pages3 table (ls ++ tail) (joined + joined2)) (sym none)
+          subst (λ (ls : List Leaf). JoinsLeaves pages pages3 table (ls ++ tail) (joined + joined2)) (sym none)
           (settled_none (subst (λ (ls : List Leaf). IsTried pages pages2 table ls tail joined) none tried)
           (subst (λ (o : Option ℕ). IsOptionTry pages2 pages3 table o joined2) (before_is ∙ ap last_page none) try))
       by_last (inr l) =
-          subst (λ (ls : List Leaf). IsSettled pages pages3 table (ls ++ tail) (joined + joined2)) (sym l.2)
-          (settled_last l.0 l.1 (subst (λ (ls : List Leaf). Neighbours FillTwo ls) l.2 filled) (subst (λ (ls : List Leaf). IsTried pages pages2 table ls tail joined) l.2 tried)
+          subst (λ (ls : List Leaf). JoinsLeaves pages pages3 table (ls ++ tail) (joined + joined2)) (sym l.2)
+          (settled_last l.0 l.1 (subst (λ (ls : List Leaf). Neighbours LeavesFillTwo ls) l.2 filled) (subst (λ (ls : List Leaf). IsTried pages pages2 table ls tail joined) l.2 tried)
           (subst (λ (o : Option ℕ). IsOptionTry pages2 pages3 table o joined2) (before_is ∙ l.3) try))

@@ -8,9 +8,10 @@ use Rattle.std.specs.FinMap.Entries.{below_all}
 use Rattle.mdb_bytes.specs.declared.logical_pages.CatalogueEntry.{CatalogueEntry}
 use Rattle.mdb_bytes.specs.TablePages.{Row, RowLeaf}
 use Rattle.mdb_bytes.specs.Paged.{PageBytes}
+use Rattle.row_page.specs.Entries.{by_bytes}
 use Rattle.leaf_runs.specs.declared.leaf.Sight.{Sight}
-use Rattle.leaf_runs.specs.Leaves.{by_bytes, all_below}
-use Rattle.leaf_runs.specs.Sights.{StandsHere}
+use Rattle.leaf_runs.specs.Leaves.{all_below}
+use Rattle.leaf_runs.specs.Sights.{BelongsHere}
 use Rattle.leaf_runs.specs.Runs.{Leaf, run_rows, first_page, last_page, leaf_at, leaf_value, LeafStands, IsChain, IsTableRun, HasRunLeaf, IsSeen, IsSpot}
 use Rattle.leaf_runs.proofs.RowLists.{sorted_right, above_rest, all_left}
 use Rattle.leaf_runs.proofs.Chains.{run_rows-append, chain_right, chain_len}
@@ -61,7 +62,7 @@ module _ (pages : PageBytes) (table : ℕ) (entry : CatalogueEntry) (leaves : Li
 
     -- the walk ends where the key stands
     pub walk_ends : (sight : Sight) → IsSeen pages page key sight → sight.is_here ≡ true → IsSpot leaves key before page
-    walk_ends sight seen here = by_cause (subst (λ (b : Bool). StandsHere b seen.0 key) here seen.2.0) where
+    walk_ends sight seen here = by_cause (subst (λ (b : Bool). BelongsHere b seen.0 key) here seen.2.0) where
       same : seen.0 ≡ leaf_value table walk.here (first_page walk.back)
       same = value_is seen.0 seen.1
 
@@ -72,7 +73,7 @@ module _ (pages : PageBytes) (table : ℕ) (entry : CatalogueEntry) (leaves : Li
       last [] chain none = tt
       last (l ∷ ls) chain none = let real = chain.0.real in absurd (omega arith)
 
-      by_cause : StandsHere true seen.0 key → IsSpot leaves key before page
+      by_cause : BelongsHere true seen.0 key → IsSpot leaves key before page
       by_cause (inl none) = spot (last walk.back stands.1 (sym (ap (λ (v : RowLeaf). v.next) same) ∙ none))
       by_cause (inr some) = spot (above_rest key walk.here.rows (run_rows walk.back) rows_up (ap (λ (v : RowLeaf). all_below key v.rows) (sym same) ∙ some))
 
@@ -82,8 +83,8 @@ module _ (pages : PageBytes) (table : ℕ) (entry : CatalogueEntry) (leaves : Li
       same : seen.0 ≡ leaf_value table walk.here (first_page walk.back)
       same = value_is seen.0 seen.1
 
-      behind : StandsHere false seen.0 key
-      behind = subst (λ (b : Bool). StandsHere b seen.0 key) here seen.2.0
+      behind : BelongsHere false seen.0 key
+      behind = subst (λ (b : Bool). BelongsHere b seen.0 key) here seen.2.0
 
       by_back : (back : List Leaf) → walk.back ≡ back → IsChain pages table back → IsWalk leaves key (Some page) sight.next (count + 1)
       by_back [] is chain = absurd (behind.0 (ap (λ (v : RowLeaf). v.next) same ∙ ap first_page is))

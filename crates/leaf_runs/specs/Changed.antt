@@ -6,20 +6,21 @@
 --     IsSettledRun, IsTakenRun      such leaves on the way, of which an only one may be without
 --         rows
 --     leaves_added      how many leaves a change has added
---     IsFound, HasFound      where a key stands or would stand, and what its row costs
+--     FindsSpot, HasFound      where a key stands or would stand, and what its row costs
+--     PutsRow, DelsRow      what a put and a deletion make of the pages
 use Rattle.std.specs.Prelude.{◌≡◌, ℕ, ◌-◌, ◌<◌, ◌^◌}
 use Rattle.std.specs.Prelude.{List, Bool, true, false, Option, Some, None, length, map, slice_set}
 use Rattle.std.specs.Prelude.{Contains}
-use Rattle.std.specs.FinMap.{get}
+use Rattle.std.specs.FinMap.{get, insert, remove}
 use Rattle.mdb_bytes.specs.declared.logical_pages.CatalogueEntry.{CatalogueEntry}
 use Rattle.mdb_bytes.specs.declared.logical_pages.Catalogue.{Catalogue}
 use Rattle.mdb_bytes.specs.TablePages.{Row, RowLeaf, rows_cost}
 use Rattle.mdb_bytes.specs.PageReadings.{catalogue_of}
 use Rattle.mdb_bytes.specs.Forms.{Neighbours}
 use Rattle.mdb_bytes.specs.Paged.{PageBytes}
-use Rattle.leaf_runs.specs.Runs.{Leaf, run_rows, first_page, leaf_at, catalogue_at, FillTwo}
-use Rattle.leaf_runs.specs.Runs.{IsTableRun, IsSpot}
-use Rattle.leaf_runs.specs.Loose.{IsLooseRun, StaysBesideTable, row_cost_of}
+use Rattle.leaf_runs.specs.Runs.{Leaf, run_rows, first_page, leaf_at, catalogue_at, LeavesFillTwo}
+use Rattle.leaf_runs.specs.Runs.{IsTableRun, IsSpot, AreRuns, rows_in_pages}
+use Rattle.leaf_runs.specs.Loose.{IsLooseRun, StaysBesideTable, LeavesOthers, row_cost_of}
 
 -- the catalogue with this entry of the table
 abbrev pub with_entry : Catalogue → (table : ℕ) → CatalogueEntry → Catalogue
@@ -72,7 +73,7 @@ pub record IsSettledRun (pages : PageBytes) (table : ℕ) (entry : CatalogueEntr
     (leaves : List Leaf) : Type 0 where
   pub run : IsLooseRun pages table leaves
   pub some : 0 < length leaves
-  pub filled : Neighbours FillTwo leaves
+  pub filled : Neighbours LeavesFillTwo leaves
   pub begins : entry.root ≡ first_page leaves
   pub count : entry.pages ≡ length leaves
   pub cost : entry.cost ≡ rows_cost (run_rows leaves)
@@ -98,7 +99,7 @@ leaves_added None = 0
 leaves_added (Some page) = 1
 
 -- the row of a key was found at its spot, with what it costs there, or it would stand there
-pub record IsFound (leaves : List Leaf) (key : List ℕ) (before : Option ℕ)
+pub record FindsSpot (leaves : List Leaf) (key : List ℕ) (before : Option ℕ)
     (page cost : ℕ) : Type 0 where
   pub spot : IsSpot leaves key before page
   pub cost_is : cost ≡ row_cost_of key (run_rows leaves)
@@ -107,4 +108,20 @@ pub record IsFound (leaves : List Leaf) (key : List ℕ) (before : Option ℕ)
 abbrev pub HasFound : PageBytes → (table : ℕ) → CatalogueEntry → (key : List ℕ)
     → (before : Option ℕ) → (page cost : ℕ) → Type 0
 HasFound pages table entry key before page cost =
-    (leaves : List Leaf) × IsWholeRun pages table entry leaves × IsFound leaves key before page cost
+    (leaves : List Leaf) × IsWholeRun pages table entry leaves
+    × FindsSpot leaves key before page cost
+
+-- Rows put and deleted
+
+-- The rows are as before but for one that is put, on leaves that are in order. The pages of the
+-- other tables are left.
+pub record PutsRow (pages pages2 : PageBytes) (table : ℕ) (key value : List ℕ) : Type 0 where
+  pub runs : AreRuns pages2
+  pub rows : rows_in_pages pages2 ≡ insert (rows_in_pages pages) (table, key) value
+  pub others : LeavesOthers pages pages2 table
+
+-- The same of one that is taken away, if it was there.
+pub record DelsRow (pages pages2 : PageBytes) (table : ℕ) (key : List ℕ) : Type 0 where
+  pub runs : AreRuns pages2
+  pub rows : rows_in_pages pages2 ≡ remove (rows_in_pages pages) (table, key)
+  pub others : LeavesOthers pages pages2 table

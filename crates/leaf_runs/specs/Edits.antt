@@ -11,7 +11,7 @@ use Rattle.std.specs.FinMap.Entries.{where_key}
 use Rattle.mdb_bytes.specs.Parts.{page_room}
 use Rattle.mdb_bytes.specs.TablePages.{Row, RowLeaf, rows_cost}
 use Rattle.mdb_bytes.specs.PageReadings.{row_leaf_of}
-use Rattle.leaf_runs.specs.Leaves.{by_bytes}
+use Rattle.row_page.specs.Entries.{by_bytes}
 
 -- the leaf with these rows, and this next page
 abbrev pub with_rows : RowLeaf → ℕ → List Row → RowLeaf

@@ -1,20 +1,16 @@
 -- A row leaf as a sorted list of rows.
---     by_bytes, key_of      the order of keys; the key of a row
+--     key_of_row      the order of keys; the key of a row
 --     IsRunLeaf      bytes are a leaf of a table with rows, under its number
 --     all_below      whether the keys of rows are below a key
 use Rattle.std.specs.Prelude.{◌≡◌, ℕ, ◌<◌, List, length, Bool, Some}
 use Rattle.std.specs.List.{list_all}
-use Rattle.std.specs.declared.cmp.Ordering.{Ordering}
-use Rattle.std.specs.Ordering.{nat_cmp, is_lt}
-use Rattle.std.specs.Cmp.Lexicographic.{slice_cmp}
+use Rattle.std.specs.Ordering.{is_lt}
 use Rattle.mdb_bytes.specs.TablePages.{Row, RowLeaf}
 use Rattle.mdb_bytes.specs.PageReadings.{row_leaf_of}
+use Rattle.row_page.specs.Entries.{by_bytes}
 
-abbrev pub by_bytes : List ℕ → List ℕ → Ordering
-by_bytes a b = slice_cmp nat_cmp a b
-
-abbrev pub key_of : Row → List ℕ
-key_of row = row.0
+abbrev pub key_of_row : Row → List ℕ
+key_of_row row = row.0
 
 -- the bytes are a leaf of the table with one row or more, and with its number
 pub record IsRunLeaf (table number : ℕ) (bytes : List ℕ) : Type 0 where

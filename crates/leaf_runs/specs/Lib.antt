@@ -9,3 +9,4 @@ pub mod Halves
 pub mod Tries
 pub mod Changed
 pub mod Holdings
+pub mod TableAreas

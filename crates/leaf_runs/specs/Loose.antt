@@ -2,10 +2,10 @@
 --     LeafIsAt, IsLooseChain, IsLooseRun      the leaves of a table in order
 --     StaysBesideTable      only pages of one table may have changed
 --     Rewrites      a table stands on these leaves now, and the pages of others stay
---     PartsAre, IsPlaced      a row was put into a leaf, which may be two now
+--     PartsAre, PutsRowInLeaf      a row was put into a leaf, which may be two now
 --     IsJoinTry      a leaf and the next one were joined where they go on one page
---     IsChangedRun, IsSettled      a run that is filled but for the leaves of a change; one that is
---         filled
+--     IsChangedRun, JoinsLeaves      a run that is filled but for the leaves of a change; one that
+--         is filled
 --     LeavesOthers      what a change leaves of the other tables
 --     row_cost_of      what the row of a key costs
 use Rattle.std.specs.Prelude.{◌≡◌, ◌⊎◌, ℕ, ◌+◌, ◌<◌, ◌≤◌, [], ◌∷◌, ◌++◌}
@@ -16,9 +16,10 @@ use Rattle.mdb_bytes.specs.declared.logical_pages.CatalogueEntry.{CatalogueEntry
 use Rattle.mdb_bytes.specs.TablePages.{Row, RowLeaf, rows_cost}
 use Rattle.mdb_bytes.specs.Forms.{Neighbours}
 use Rattle.mdb_bytes.specs.Paged.{PageBytes}
-use Rattle.leaf_runs.specs.Leaves.{by_bytes, all_below}
+use Rattle.row_page.specs.Entries.{by_bytes}
+use Rattle.leaf_runs.specs.Leaves.{all_below}
 use Rattle.leaf_runs.specs.Runs.{Leaf, run_rows, first_page, last_page, leaf_at, leaf_value}
-use Rattle.leaf_runs.specs.Runs.{FillTwo, HasEntry}
+use Rattle.leaf_runs.specs.Runs.{LeavesFillTwo, HasEntry}
 
 -- the leaf stands on its page, with rows or without, and names this page as the next one
 pub record LeafIsAt (pages : PageBytes) (table : ℕ) (leaf : Leaf) (next : ℕ) : Type 0 where
@@ -72,7 +73,7 @@ PartsAre parts page (Some other) =
     × (parts ≡ here ∷ there ∷ [])
 
 -- the row was put into a leaf, on whose place these leaves stand now
-pub record IsPlaced (pages pages2 : PageBytes) (table : ℕ) (front : List Leaf) (here : Leaf)
+pub record PutsRowInLeaf (pages pages2 : PageBytes) (table : ℕ) (front : List Leaf) (here : Leaf)
     (back : List Leaf) (key value : List ℕ) (other : Option ℕ) : Type 0 where
   pub parts : List Leaf
   pub are : PartsAre parts here.page other
@@ -112,7 +113,7 @@ pub record IsJoinTry (pages pages2 : PageBytes) (table : ℕ) (front : List Leaf
   pub page : here.page ≡ a.page
   pub grown : rows_cost a.rows ≤ rows_cost here.rows
   pub rows : here.rows ++ run_rows rest ≡ a.rows ++ run_rows back
-  pub filled : Neighbours FillTwo (here ∷ rest)
+  pub filled : Neighbours LeavesFillTwo (here ∷ rest)
   pub count : length rest + one_if joined ≡ length back
 
 -- a run whose leaves fill two pages each, but for those of a change
@@ -121,8 +122,8 @@ pub record IsChangedRun (pages : PageBytes) (table : ℕ) (front parts back : Li
   pub run : IsLooseRun pages table (front ++ (parts ++ back))
   pub before_is : before ≡ last_page front
   pub are : PartsAre parts page other
-  pub filled_front : Neighbours FillTwo front
-  pub filled_back : Neighbours FillTwo back
+  pub filled_front : Neighbours LeavesFillTwo front
+  pub filled_back : Neighbours LeavesFillTwo back
 
 -- there is such a run
 abbrev pub HasChangedRun : PageBytes → (table : ℕ) → (before : Option ℕ) → (page : ℕ)
@@ -132,13 +133,13 @@ HasChangedRun pages table before page other =
     × IsChangedRun pages table front parts back before page other
 
 -- the rows stand on leaves that fill two pages each; `joined` leaves were joined to the one before
-pub record IsSettled (pages pages2 : PageBytes) (table : ℕ) (leaves : List Leaf)
+pub record JoinsLeaves (pages pages2 : PageBytes) (table : ℕ) (leaves : List Leaf)
     (joined : ℕ) : Type 0 where
   pub leaves2 : List Leaf
   pub rewrites : Rewrites pages pages2 table leaves2
   pub rows : run_rows leaves2 ≡ run_rows leaves
   pub begins : first_page leaves2 ≡ first_page leaves
-  pub filled : Neighbours FillTwo leaves2
+  pub filled : Neighbours LeavesFillTwo leaves2
   pub count : length leaves2 + joined ≡ length leaves
 
 -- What a change of a table leaves of the others

@@ -4,7 +4,7 @@
 --     IsChain      each leaf names the next one
 --     IsTableRun      a table on its leaves, as the catalogue has it
 --     AreRuns      all tables are runs, and each leaf belongs to one
---     rows_of      the rows on all pages
+--     rows_in_pages      the rows on all pages
 -- These say of the bytes of pages what the rules on the form of a map of pages say of pages with
 -- stamps.
 use Rattle.std.specs.Prelude.{◌≡◌, ℕ, ◌+◌, ◌-◌, ◌<◌, ◌≤◌, [], ◌∷◌, ◌++◌, ◌⊎◌}
@@ -21,10 +21,11 @@ use Rattle.mdb_bytes.specs.TablePages.{Row, RowLeaf, rows_cost}
 use Rattle.mdb_bytes.specs.PageReadings.{row_leaf_of, catalogue_of, rows_on}
 use Rattle.mdb_bytes.specs.Forms.{Neighbours}
 use Rattle.mdb_bytes.specs.Paged.{PageBytes}
+use Rattle.row_page.specs.Entries.{by_bytes}
 use Rattle.leaf_runs.specs.declared.leaf.Sight.{Sight}
 use Rattle.leaf_runs.specs.Sights.{Sees}
-use Rattle.leaf_runs.specs.Leaves.{by_bytes, all_below, IsRunLeaf}
-use Rattle.leaf_runs.specs.Behind.{not_behind, IsBehind}
+use Rattle.leaf_runs.specs.Leaves.{all_below, IsRunLeaf}
+use Rattle.leaf_runs.specs.Behind.{not_behind, IsFirstAfter}
 
 -- a leaf of a run: its page and its rows
 pub record Leaf : Type 0 where
@@ -74,8 +75,8 @@ IsChain pages table (leaf ∷ leaves) =
     LeafStands pages table leaf (first_page leaves) × IsChain pages table leaves
 
 -- the rows of two leaves do not go on one page
-abbrev pub FillTwo : Leaf → Leaf → Type 0
-FillTwo a b = page_room < rows_cost a.rows + rows_cost b.rows
+abbrev pub LeavesFillTwo : Leaf → Leaf → Type 0
+LeavesFillTwo a b = page_room < rows_cost a.rows + rows_cost b.rows
 
 -- a table on these leaves, as the catalogue has it
 pub record IsTableRun (pages : PageBytes) (table : ℕ) (entry : CatalogueEntry)
@@ -83,7 +84,7 @@ pub record IsTableRun (pages : PageBytes) (table : ℕ) (entry : CatalogueEntry)
   pub begins : entry.root ≡ first_page leaves
   pub linked : IsChain pages table leaves
   pub in_order : T (is_sorted by_bytes (run_rows leaves))
-  pub filled : Neighbours FillTwo leaves
+  pub filled : Neighbours LeavesFillTwo leaves
   pub count : entry.pages ≡ length leaves
   pub cost : entry.cost ≡ rows_cost (run_rows leaves)
 
@@ -100,8 +101,8 @@ pub record AreRuns (pages : PageBytes) : Type 0 where
       → Contains (map (λ leaf. leaf.page) (runs leaf.table)) number
 
 -- the rows on the pages that spell a leaf, each under its table
-abbrev pub rows_of : PageBytes → Tables
-rows_of pages = from_entries (flat_map rows_on (values pages))
+abbrev pub rows_in_pages : PageBytes → Tables
+rows_in_pages pages = from_entries (flat_map rows_on (values pages))
 
 -- Walks
 
@@ -126,19 +127,19 @@ abbrev pub IsOnward : PageBytes → (page : ℕ) → (after : List ℕ) → (fou
     → (key value : List ℕ) → Type 0
 IsOnward pages page after found next key value =
     (leaf : RowLeaf) × (leaf_at pages page ≡ Some leaf) × (next ≡ leaf.next)
-    × IsBehind found leaf.rows after key value
+    × IsFirstAfter found leaf.rows after key value
 
 -- the first row after a key was sought on a leaf, and on the next one where it has none
-pub record IsScanned (pages : PageBytes) (page : ℕ) (after : List ℕ) (found : Bool)
+pub record IsRowScanned (pages : PageBytes) (page : ℕ) (after : List ℕ) (found : Bool)
     (key value : List ℕ) : Type 0 where
   pub leaf : RowLeaf
   pub there : leaf_at pages page ≡ Some leaf
-  pub scanned : ((found ≡ true) × IsBehind true leaf.rows after key value)
+  pub scanned : ((found ≡ true) × IsFirstAfter true leaf.rows after key value)
       ⊎ ((not_behind after leaf.rows ≡ true)
       × (((found ≡ false) × (leaf.next ≡ 0))
       ⊎ ((leaf.next ≡ 0 → ⊥)
       × ((next : RowLeaf) × (leaf_at pages leaf.next ≡ Some next)
-      × IsBehind found next.rows after key value))))
+      × IsFirstAfter found next.rows after key value))))
 
 -- a page is a leaf of the table, and so is the one that it names as the next
 abbrev pub HasTwoLeaves : PageBytes → (table number : ℕ) → Type 0

@@ -9,7 +9,7 @@ use Rattle.std.specs.FinMap.{get, put, is_sorted}
 use Rattle.mdb_bytes.specs.Parts.{page_room}
 use Rattle.mdb_bytes.specs.TablePages.{RowLeaf, rows_cost}
 use Rattle.mdb_bytes.specs.Paged.{PageBytes}
-use Rattle.leaf_runs.specs.Leaves.{by_bytes}
+use Rattle.row_page.specs.Entries.{by_bytes}
 use Rattle.leaf_runs.specs.Edits.{with_rows, without, IsLeafNamed}
 use Rattle.leaf_runs.specs.Runs.{leaf_at}
 

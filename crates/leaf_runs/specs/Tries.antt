@@ -8,7 +8,7 @@ use Rattle.mdb_bytes.specs.TablePages.{RowLeaf, rows_cost}
 use Rattle.mdb_bytes.specs.Forms.{Neighbours}
 use Rattle.mdb_bytes.specs.Paged.{PageBytes}
 use Rattle.leaf_runs.specs.declared.settling.Fill.{Fill}
-use Rattle.leaf_runs.specs.Runs.{Leaf, FillTwo}
+use Rattle.leaf_runs.specs.Runs.{Leaf, LeavesFillTwo}
 use Rattle.leaf_runs.specs.Steps.{IsNamedAt}
 use Rattle.leaf_runs.specs.Loose.{IsLooseRun, HasHere, IsJoinTry, one_if}
 
@@ -25,7 +25,8 @@ abbrev pub IsOptionTry : (pages pages2 : PageBytes) → (table : ℕ) → (page 
 IsOptionTry pages pages2 table None joined = (pages2 ≡ pages) × (joined ≡ 0)
 IsOptionTry pages pages2 table (Some page) joined =
     (front : List Leaf) (here : Leaf) (back : List Leaf)
-    → IsLooseRun pages table (front ++ here ∷ back) → here.page ≡ page → Neighbours FillTwo back
+    → IsLooseRun pages table (front ++ here ∷ back) → here.page ≡ page
+    → Neighbours LeavesFillTwo back
     → (met : Bool) × (joined ≡ one_if met) × IsJoinTry pages pages2 table front here back met
 
 -- the page is a leaf of a run, or there is no page

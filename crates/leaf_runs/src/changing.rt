@@ -1,17 +1,17 @@
 //! Rows put and deleted.
 ghost use Rattle.std.specs.Prelude.{◌≡◌, ◌+◌, ◌-◌, ◌<◌, ◌≤◌, ◌^◌, ◌∷◌, [], ℕ};
 ghost use Rattle.std.specs.Prelude.{List, length, IsTrue, IfOk, OnOk, is_some};
-ghost use Rattle.std.specs.FinMap.{get, insert, remove, put as with_row};
+ghost use Rattle.std.specs.FinMap.{get, put as with_row};
 ghost use Rattle.mdb_model.specs.Script.{is_table, is_key, is_value};
 ghost use Rattle.mdb_bytes.specs.Held.{HasPageCause};
 ghost use Rattle.mdb_bytes.specs.Paged.{is_live};
-ghost use Rattle.leaf_runs.specs.Leaves.{by_bytes};
+ghost use Rattle.row_page.specs.Entries.{by_bytes};
 ghost use Rattle.leaf_runs.specs.Edits.{without};
-ghost use Rattle.leaf_runs.specs.Runs.{Leaf, IsTableRun, HasLeaves, AreRuns, run_rows, rows_of};
-ghost use Rattle.leaf_runs.specs.Loose.{IsLooseRun, LeavesOthers};
-ghost use Rattle.leaf_runs.specs.Changed.{leaves_added, IsFound, HasFound, IsWholeRun, HasWholeRun};
+ghost use Rattle.leaf_runs.specs.Runs.{Leaf, IsTableRun, HasLeaves, AreRuns, run_rows, rows_in_pages};
+ghost use Rattle.leaf_runs.specs.Loose.{IsLooseRun};
+ghost use Rattle.leaf_runs.specs.Changed.{leaves_added, FindsSpot, HasFound, IsWholeRun, HasWholeRun};
 ghost use Rattle.leaf_runs.specs.Changed.{HasSomeRun, IsNewRun, IsTakenRun, IsSettledRun};
-ghost use Rattle.leaf_runs.specs.Changed.{HasSettledRun};
+ghost use Rattle.leaf_runs.specs.Changed.{HasSettledRun, PutsRow, DelsRow};
 
 use crate::catalogue::{read_entry, write_entry};
 use crate::placing::{first_row, place_in_run, take_in_run};
@@ -40,7 +40,7 @@ fn find_row<P: Pages>(
         → IfOk result
         (λ found. (leaves : List Leaf) → IsTableRun (P.pages pages.old) table.0 entry leaves
         → 0 < length leaves
-        → IsFound leaves key.now found.spot.before found.spot.page found.cost) }
+        → FindsSpot leaves key.now found.spot.before found.spot.page found.cost) }
     ensures same { P.is_known pages.old
         → OnOk result (P.is_known pages.new × (P.pages pages.new ≡ P.pages pages.old)) }
     ensures spare { P.spare pages.old ≤ P.spare pages.new }
@@ -192,13 +192,9 @@ pub fn put<P: Pages>(pages: &mut P, table: Table, key: &[u8], value: &[u8]) -> R
     requires value { IsTrue (is_value value.now) }
     requires room { 40 ≤ P.spare pages.old }
     // The result.
-    ensures set { P.is_known pages.old → AreRuns (P.pages pages.old)
-        → OnOk result
-        (P.is_known pages.new × AreRuns (P.pages pages.new)
-        × (rows_of (P.pages pages.new)
-        ≡ insert (rows_of (P.pages pages.old)) (table.0, key.now) value.now)) }
-    ensures others { P.is_known pages.old → AreRuns (P.pages pages.old)
-        → OnOk result (LeavesOthers (P.pages pages.old) (P.pages pages.new) table.0) }
+    ensures set { P.is_known pages.old → AreRuns (P.pages pages.old) → OnOk result
+        (PutsRow (P.pages pages.old) (P.pages pages.new) table.0 key.now value.now) }
+    ensures known { P.is_known pages.old → OnOk result (P.is_known pages.new) }
     // Room and faults.
     ensures spare { P.spare pages.old ≤ P.spare pages.new + 40 }
     ensures cause { HasPageCause (P.is_known pages.old × AreRuns (P.pages pages.old))
@@ -222,7 +218,7 @@ fn take_from_leaves<P: Pages>(
     requires room { 7 ≤ P.spare pages.old }
     ensures taken { P.is_known pages.old → (leaves : List Leaf)
         → IsWholeRun (P.pages pages.old) table.0 entry leaves
-        → IsFound leaves key.now found.spot.before found.spot.page found.cost
+        → FindsSpot leaves key.now found.spot.before found.spot.page found.cost
         → IfOk result
         (IsTakenRun (P.pages pages.old) (P.pages pages.new) table.0
         (without key.now (run_rows leaves))) }
@@ -277,7 +273,7 @@ fn take_from_table<P: Pages>(
     requires room { 7 ≤ P.spare pages.old }
     ensures made { P.is_known pages.old → (leaves : List Leaf)
         → IsWholeRun (P.pages pages.old) table.0 entry leaves
-        → IsFound leaves key.now found.spot.before found.spot.page found.cost
+        → FindsSpot leaves key.now found.spot.before found.spot.page found.cost
         → IfOk result
         (IsNewRun (P.pages pages.old) (P.pages pages.new) table.0
         (without key.now (run_rows leaves))) }
@@ -303,14 +299,10 @@ pub fn del<P: Pages>(pages: &mut P, table: Table, key: &[u8]) -> Result<bool, Pa
     // The result.
     ensures found { P.is_known pages.old → AreRuns (P.pages pages.old)
         → IfOk result
-        (λ found. found ≡ is_some (get (rows_of (P.pages pages.old)) (table.0, key.now))) }
-    ensures gone { P.is_known pages.old → AreRuns (P.pages pages.old)
-        → OnOk result
-        (P.is_known pages.new × AreRuns (P.pages pages.new)
-        × (rows_of (P.pages pages.new)
-        ≡ remove (rows_of (P.pages pages.old)) (table.0, key.now))) }
-    ensures others { P.is_known pages.old → AreRuns (P.pages pages.old)
-        → OnOk result (LeavesOthers (P.pages pages.old) (P.pages pages.new) table.0) }
+        (λ found. found ≡ is_some (get (rows_in_pages (P.pages pages.old)) (table.0, key.now))) }
+    ensures gone { P.is_known pages.old → AreRuns (P.pages pages.old) → OnOk result
+        (DelsRow (P.pages pages.old) (P.pages pages.new) table.0 key.now) }
+    ensures known { P.is_known pages.old → OnOk result (P.is_known pages.new) }
     // Room and faults.
     ensures spare { P.spare pages.old ≤ P.spare pages.new + 40 }
     ensures cause { HasPageCause (P.is_known pages.old × AreRuns (P.pages pages.old))

@@ -7,9 +7,8 @@ ghost use Rattle.mdb_model.specs.Script.{is_key, is_value};
 ghost use Rattle.mdb_model.specs.declared.limits.TheConstants.{PAGE_ROOM};
 ghost use Rattle.mdb_bytes.specs.TablePages.{RowLeaf};
 ghost use Rattle.mdb_bytes.specs.PageReadings.{row_leaf_of};
-ghost use Rattle.row_page.specs.Entries.{Entry, IsPage, Becomes, IsPlaceFor, entries_of, head_of};
-ghost use Rattle.row_page.specs.Entries.{is_leaf, cost_of};
-ghost use Rattle.leaf_runs.specs.Leaves.{by_bytes};
+ghost use Rattle.row_page.specs.Entries.{PageEntry, IsPage, Becomes, IsPlaceFor, entries_of, page_head_of, by_bytes};
+ghost use Rattle.row_page.specs.Entries.{is_leaf, used_bytes};
 ghost use Rattle.leaf_runs.specs.Edits.{IsTaken, IsInserted, IsPut};
 
 use mdb_model::limits::{PAGE_BYTES, PAGE_ROOM};
@@ -33,7 +32,7 @@ pub(crate) fn del_row(page: &mut [u8; PAGE_BYTES], key: &[u8]) -> bool
 // Puts a new row in at its place, where there is room.
 fn insert_at(page: &mut [u8; PAGE_BYTES], at: usize, key: &[u8], value: &[u8]) -> bool
     requires page { IsPage page.old }
-    requires leaf { is_leaf (head_of page.old) ≡ true }
+    requires leaf { is_leaf (page_head_of page.old) ≡ true }
     requires place { IsPlaceFor (entries_of page.old) key.now at }
     requires key { IsTrue (is_key key.now) }
     requires value { IsTrue (is_value value.now) }
@@ -42,7 +41,7 @@ fn insert_at(page: &mut [u8; PAGE_BYTES], at: usize, key: &[u8], value: &[u8]) -
         (with_entry (entries_of page.old) at (record { key = key.now; rest = value.now })) }
     ensures full { result ≡ false
         → (page.new ≡ page.old)
-        × (PAGE_ROOM < cost_of page.old + (8 + length key.now + length value.now)) }
+        × (PAGE_ROOM < used_bytes page.old + (8 + length key.now + length value.now)) }
 {
     if used_of(page) + 8 + key.len() + value.len() > PAGE_ROOM {
         return false;

@@ -5,11 +5,12 @@ ghost use Rattle.std.specs.Prelude.{slice_get};
 ghost use Rattle.std.specs.FinMap.{find};
 ghost use Rattle.mdb_bytes.specs.TablePages.{RowLeaf};
 ghost use Rattle.mdb_bytes.specs.PageReadings.{row_leaf_of};
-ghost use Rattle.mdb_bytes.specs.Held.{IsRow};
+ghost use Rattle.mdb_bytes.specs.Held.{IsFoundRow};
+ghost use Rattle.row_page.specs.Entries.{by_bytes};
 ghost use Rattle.sorted_places.specs.Search.{IsAt, IsGap};
-ghost use Rattle.leaf_runs.specs.Sights.{StandsHere, Sees};
-ghost use Rattle.leaf_runs.specs.Behind.{IsCut, IsBehind};
-ghost use Rattle.leaf_runs.specs.Leaves.{by_bytes, key_of, all_below, IsRunLeaf};
+ghost use Rattle.leaf_runs.specs.Sights.{BelongsHere, Sees};
+ghost use Rattle.leaf_runs.specs.Behind.{IsCut, IsFirstAfter};
+ghost use Rattle.leaf_runs.specs.Leaves.{key_of_row, all_below, IsRunLeaf};
 ghost use Rattle.leaf_runs.specs.Loose.{row_cost_of};
 
 use mdb_bytes::{PageHead, check_row_leaf, page_head};
@@ -47,8 +48,8 @@ pub(crate) fn is_run_leaf(page: &[u8; PAGE_BYTES], table: Table, number: u32) ->
 pub(crate) fn search(page: &[u8; PAGE_BYTES], key: &[u8]) -> Result<usize, usize>
     requires { (leaf : RowLeaf) × (row_leaf_of page.now ≡ Some leaf) }
     ensures { (leaf : RowLeaf) → row_leaf_of page.now ≡ Some leaf
-        → MatchResult result (IsAt by_bytes key_of leaf.rows key.now)
-        (IsGap by_bytes key_of leaf.rows key.now) }
+        → MatchResult result (IsAt by_bytes key_of_row leaf.rows key.now)
+        (IsGap by_bytes key_of_row leaf.rows key.now) }
 {
     find(page, key)
 }
@@ -57,7 +58,7 @@ pub(crate) fn search(page: &[u8; PAGE_BYTES], key: &[u8]) -> Result<usize, usize
 pub(crate) fn copy_value(page: &[u8; PAGE_BYTES], key: &[u8], into: &mut ValueBuf) -> bool
     requires { (leaf : RowLeaf) × (row_leaf_of page.now ≡ Some leaf) }
     ensures { (leaf : RowLeaf) → row_leaf_of page.now ≡ Some leaf
-        → IsRow result (find by_bytes key.now leaf.rows) into.new.items }
+        → IsFoundRow result (find by_bytes key.now leaf.rows) into.new.items }
 {
     let Ok(at) = search(page, key) else {
         return false;
@@ -91,7 +92,8 @@ fn ends_below(page: &[u8; PAGE_BYTES], key: &[u8]) -> bool
 // Whether a key stands in a leaf with rows or would stand there, among the leaves from it on.
 fn stands_here(page: &[u8; PAGE_BYTES], key: &[u8]) -> bool
     requires { (leaf : RowLeaf) × (row_leaf_of page.now ≡ Some leaf) × (0 < length leaf.rows) }
-    ensures { (leaf : RowLeaf) → row_leaf_of page.now ≡ Some leaf → StandsHere result leaf key.now }
+    ensures { (leaf : RowLeaf) → row_leaf_of page.now ≡ Some leaf
+        → BelongsHere result leaf key.now }
 {
     if next_of(page) == 0 {
         return true;
@@ -144,7 +146,7 @@ pub(crate) fn copy_behind(
 ) -> bool
     requires { (leaf : RowLeaf) × (row_leaf_of page.now ≡ Some leaf) }
     ensures { (leaf : RowLeaf) → row_leaf_of page.now ≡ Some leaf
-        → IsBehind result leaf.rows after.now key.new.items value.new.items }
+        → IsFirstAfter result leaf.rows after.now key.new.items value.new.items }
 {
     let at = first_behind(page, after);
     if at >= count_of(page) {

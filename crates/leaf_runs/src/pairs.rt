@@ -4,7 +4,7 @@ ghost use Rattle.std.specs.Prelude.{List, length, Bool, true, false, IsTrue, Som
 ghost use Rattle.std.specs.FinMap.{is_sorted};
 ghost use Rattle.mdb_bytes.specs.TablePages.{RowLeaf};
 ghost use Rattle.mdb_bytes.specs.PageReadings.{row_leaf_of};
-ghost use Rattle.leaf_runs.specs.Leaves.{by_bytes};
+ghost use Rattle.row_page.specs.Entries.{by_bytes};
 ghost use Rattle.leaf_runs.specs.Edits.{IsLeafNamed};
 
 use mdb_bytes::{PageHead, PairEdit, check_row_leaf, page_head};

@@ -8,7 +8,7 @@ ghost use Rattle.leaf_runs.specs.Edits.{without};
 ghost use Rattle.leaf_runs.specs.Runs.{Leaf};
 ghost use Rattle.leaf_runs.specs.Steps.{HasLeaf, IsNamedAt};
 ghost use Rattle.leaf_runs.specs.Halves.{IsPlaceOn, IsCutOff, AreHalves, IsPutOnOne};
-ghost use Rattle.leaf_runs.specs.Loose.{IsLooseRun, Rewrites, IsRound, IsPlaced, HasHere, HasSpot};
+ghost use Rattle.leaf_runs.specs.Loose.{IsLooseRun, Rewrites, IsRound, PutsRowInLeaf, HasHere, HasSpot};
 
 use crate::leaf::first_behind;
 use crate::pairs::{SplitAt, is_leaf_of};
@@ -164,7 +164,7 @@ pub(crate) fn place_in_run<P: Pages>(
         → IsLooseRun (P.pages pages.old) table.0 (front ++ here ∷ back) → here.page ≡ page
         → IsRound front key.now back
         → IfOk result
-        (IsPlaced (P.pages pages.old) (P.pages pages.new) table.0 front here back key.now
+        (PutsRowInLeaf (P.pages pages.old) (P.pages pages.new) table.0 front here back key.now
         value.now) }
     ensures known { P.is_known pages.old → OnOk result (P.is_known pages.new) }
     // Room and faults.

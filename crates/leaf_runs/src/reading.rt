@@ -3,12 +3,12 @@ ghost use Rattle.std.specs.Prelude.{◌≡◌, ◌<◌, ◌≤◌, ℕ, List, le
 ghost use Rattle.mdb_model.specs.Script.{is_table};
 ghost use Rattle.std.specs.FinMap.{get, find};
 ghost use Rattle.mdb_model.specs.Space.{table_pages, table_cost};
-ghost use Rattle.mdb_bytes.specs.Held.{HasPageCause, IsRow, next_row, IsNextRow};
+ghost use Rattle.mdb_bytes.specs.Held.{HasPageCause, IsFoundRow, next_row, IsNextRow};
 ghost use Rattle.mdb_bytes.specs.TablePages.{RowLeaf};
-ghost use Rattle.leaf_runs.specs.Leaves.{by_bytes};
+ghost use Rattle.row_page.specs.Entries.{by_bytes};
 ghost use Rattle.leaf_runs.specs.Runs.{Leaf, IsTableRun, AreRuns, HasRunLeaf, HasLeaves};
-ghost use Rattle.leaf_runs.specs.Runs.{HasTwoLeaves, IsSeen, IsOnward, IsScanned, IsSpot, leaf_at};
-ghost use Rattle.leaf_runs.specs.Runs.{rows_of};
+ghost use Rattle.leaf_runs.specs.Runs.{HasTwoLeaves, IsSeen, IsOnward, IsRowScanned, IsSpot, leaf_at};
+ghost use Rattle.leaf_runs.specs.Runs.{rows_in_pages};
 ghost use Rattle.leaf_runs.specs.Loose.{row_cost_of};
 
 use crate::catalogue::read_entry;
@@ -111,7 +111,7 @@ fn read_value<P: Pages>(
     ensures found { P.is_known pages.old
         → IfOk result
         (λ found. (leaf : RowLeaf) × (leaf_at (P.pages pages.old) page ≡ Some leaf)
-        × IsRow found (find by_bytes key.now leaf.rows) into.new.items) }
+        × IsFoundRow found (find by_bytes key.now leaf.rows) into.new.items) }
     ensures same { P.is_known pages.old
         → OnOk result (P.is_known pages.new × (P.pages pages.new ≡ P.pages pages.old)) }
     ensures spare { P.spare pages.old ≤ P.spare pages.new }
@@ -170,7 +170,7 @@ pub fn get<P: Pages>(
     requires { IsTrue (is_table table.0) }
     ensures found { P.is_known pages.old → AreRuns (P.pages pages.old)
         → IfOk result
-        (λ found. IsRow found (get (rows_of (P.pages pages.old)) (table.0, key.now))
+        (λ found. IsFoundRow found (get (rows_in_pages (P.pages pages.old)) (table.0, key.now))
         into.new.items) }
     ensures same { P.is_known pages.old
         → OnOk result (P.is_known pages.new × (P.pages pages.new ≡ P.pages pages.old)) }
@@ -241,7 +241,7 @@ fn scan_from<P: Pages>(
 ) -> Result<bool, PageFault>
     ensures found { P.is_known pages.old
         → IfOk result
-        (λ found. IsScanned (P.pages pages.old) page after.now found key.new.items
+        (λ found. IsRowScanned (P.pages pages.old) page after.now found key.new.items
         value.new.items) }
     ensures same { P.is_known pages.old
         → OnOk result (P.is_known pages.new × (P.pages pages.new ≡ P.pages pages.old)) }
@@ -274,7 +274,7 @@ pub fn scan_next<P: Pages>(
     requires { IsTrue (is_table table.0) }
     ensures found { P.is_known pages.old → AreRuns (P.pages pages.old)
         → IfOk result
-        (λ found. IsNextRow found (next_row (rows_of (P.pages pages.old)) table.0 after.now)
+        (λ found. IsNextRow found (next_row (rows_in_pages (P.pages pages.old)) table.0 after.now)
         key.new.items value.new.items) }
     ensures same { P.is_known pages.old
         → OnOk result (P.is_known pages.new × (P.pages pages.new ≡ P.pages pages.old)) }
@@ -300,7 +300,7 @@ pub fn pages<P: Pages>(pages: &mut P, table: Table) -> Result<u32, PageFault>
         → IfOk result
         (λ count. count
         ≤ table_pages
-        (table_cost (rows_of (P.pages pages.old)) (rows_of (P.pages pages.old))
+        (table_cost (rows_in_pages (P.pages pages.old)) (rows_in_pages (P.pages pages.old))
         table.0)) }
     ensures same { P.is_known pages.old
         → OnOk result (P.is_known pages.new × (P.pages pages.new ≡ P.pages pages.old)) }

@@ -1,6 +1,6 @@
 //! A keeper of rows whose tables are lists of leaves.
 ghost use Rattle.std.specs.Prelude.{◌≡◌};
-ghost use Rattle.leaf_runs.specs.Runs.{AreRuns};
+ghost use Rattle.leaf_runs.specs.TableAreas.{IsTableArea};
 ghost use Rattle.leaf_runs.specs.Holdings.{holding_of};
 
 use crate::{changing, reading};
@@ -28,7 +28,7 @@ impl<P: Pages> Runs<P> {
 }
 
 impl<P: Pages> Held for Runs<P> {
-    ghost is_known = { λ s. P.is_known s.pages × AreRuns (P.pages s.pages) };
+    ghost is_known = { λ s. P.is_known s.pages × IsTableArea (P.pages s.pages) };
 
     ghost held = { λ s. holding_of (P.pages s.pages) };
 

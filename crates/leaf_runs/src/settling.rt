@@ -4,9 +4,9 @@ ghost use Rattle.std.specs.Prelude.{List, Option, IsTrue, IfOk, OnOk};
 ghost use Rattle.mdb_bytes.specs.Parts.{page_room};
 ghost use Rattle.mdb_bytes.specs.Held.{HasPageCause};
 ghost use Rattle.mdb_bytes.specs.Forms.{Neighbours};
-ghost use Rattle.leaf_runs.specs.Runs.{Leaf, FillTwo};
+ghost use Rattle.leaf_runs.specs.Runs.{Leaf, LeavesFillTwo};
 ghost use Rattle.leaf_runs.specs.Loose.{IsLooseRun, Rewrites, HasHere, IsJoinTry, IsChangedRun};
-ghost use Rattle.leaf_runs.specs.Loose.{HasChangedRun, IsSettled};
+ghost use Rattle.leaf_runs.specs.Loose.{HasChangedRun, JoinsLeaves};
 ghost use Rattle.leaf_runs.specs.Steps.{HasLeaf};
 ghost use Rattle.leaf_runs.specs.Tries.{IsFilled, IsOptionTry, HasOptionHere};
 
@@ -63,7 +63,7 @@ pub(crate) fn join_if_fits<P: Pages>(
     requires room { 2 ≤ P.spare pages.old }
     ensures joined { P.is_known pages.old → (front : List Leaf) (here : Leaf) (back : List Leaf)
         → IsLooseRun (P.pages pages.old) table.0 (front ++ here ∷ back) → here.page ≡ first
-        → Neighbours FillTwo back
+        → Neighbours LeavesFillTwo back
         → IfOk result (IsJoinTry (P.pages pages.old) (P.pages pages.new) table.0 front here back) }
     ensures known { P.is_known pages.old → OnOk result (P.is_known pages.new) }
     ensures spare { P.spare pages.old ≤ P.spare pages.new + 2 }
@@ -125,7 +125,7 @@ pub(crate) fn settle<P: Pages>(
     ensures settled { P.is_known pages.old → (front parts back : List Leaf)
         → IsChangedRun (P.pages pages.old) table.0 front parts back before page other
         → IfOk result
-        (IsSettled (P.pages pages.old) (P.pages pages.new) table.0 (front ++ (parts ++ back))) }
+        (JoinsLeaves (P.pages pages.old) (P.pages pages.new) table.0 (front ++ (parts ++ back))) }
     ensures few { IfOk result (λ joined. joined ≤ 3) }
     ensures known { P.is_known pages.old → OnOk result (P.is_known pages.new) }
     ensures spare { P.spare pages.old ≤ P.spare pages.new + 6 }

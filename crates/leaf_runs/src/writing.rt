@@ -7,7 +7,7 @@ ghost use Rattle.mdb_bytes.specs.Parts.{page_room};
 ghost use Rattle.mdb_model.specs.Script.{is_table, is_key, is_value};
 ghost use Rattle.mdb_bytes.specs.Held.{HasPageCause};
 ghost use Rattle.mdb_bytes.specs.TablePages.{RowLeaf, rows_cost};
-ghost use Rattle.leaf_runs.specs.Leaves.{by_bytes};
+ghost use Rattle.row_page.specs.Entries.{by_bytes};
 ghost use Rattle.leaf_runs.specs.Edits.{with_rows, without};
 ghost use Rattle.leaf_runs.specs.Runs.{leaf_at};
 ghost use Rattle.leaf_runs.specs.Steps.{SetsLeaf, HasLeaf, IsPutOn, IsNewLeaf, IsNamedAt};

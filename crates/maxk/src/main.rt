@@ -22,7 +22,7 @@ fn main(rt: HostRuntime) -> ExitCode {
     ExitCode::from(status as u8)
 }
 
-// The words behind the program's name.
+// The words after the program's name.
 fn call_words(rt: &HostRuntime) -> Result<Vec<String>, Memory> {
     let Ok(call) = env::args(rt) else {
         return Err(Memory);

@@ -126,7 +126,7 @@ const FULL_LOG: &[u8] = b"OK ONLINE 0\n\
 // What comes of a key or a value that is too long, or of no key.
 const NOT_PUT: &[u8] = b"OK ONLINE 0\nERR 1 SYNTAX\nOK EMPTY\nOK OFFLINE\nOK ONLINE 0\nOK SCAN 0\n";
 
-// The lines behind a put.
+// The lines after a put.
 const KEPT: &[u8] = b"'\ns 64 commit\nkill\ndb_online\ns 1 scan 500\n";
 
 // Scripts with long rows on a new database with a log of so many pages, and what they are answered.
@@ -312,7 +312,7 @@ const DAMAGED: [(Change, &'static [u8]); 21] = [
         Change::Written(Device::Log, 60, b"\0\0\0\x05"),
         b"ERR 20 DAMAGED LOG 0 SIZE\n",
     ),
-    // An open gate in the ring, and no group behind it, or that of another birth.
+    // An open gate in the ring, and no group after it, or that of another birth.
     (
         Change::Written(Device::Log, 16384, &[0x4F; 8192]),
         b"ERR 20 DAMAGED LOG 2 GROUP\n",
@@ -328,7 +328,7 @@ const DAMAGED: [(Change, &'static [u8]); 21] = [
 ];
 
 // What is done to such a database that a restart takes: a volume that it does not have, a group,
-// and a closed gate, behind which anything may stand.
+// and a closed gate, after which anything may stand.
 const FITTING: [(Change, &'static [u8]); 3] = [
     (Change::Renewed(Device::Data(2), 64), b"OK ONLINE 0\n"),
     (Change::Written(Device::Log, 16384, GROUP), b"OK ONLINE 1\n"),
@@ -374,7 +374,7 @@ fn a_restart_takes_what_fits(rt: HostRuntime) -> Result<(), Fail> {
     Ok(())
 }
 
-// Five commits, and what is asked behind them.
+// Five commits, and what is asked after them.
 const FIVE_COMMITS: &[u8] = b"db_online\n\
     s 1 put 1 'a' 'x'\ns 1 commit\ns 1 put 1 'b' 'x'\ns 1 commit\ns 1 put 1 'c' 'x'\ns 1 commit\n\
     s 1 put 1 'd' 'x'\ns 1 commit\ns 1 put 1 'e' 'x'\ns 1 commit\n\

@@ -2,7 +2,7 @@
 use std::alloc::Global;
 use std::test::Fail;
 
-// A part of a text: what stands in front of so many letters `a`, what stands behind them, and how
+// A part of a text: what stands in front of so many letters `a`, what stands after them, and how
 // often all of it comes.
 pub(crate) type Part = (&'static [u8], usize, &'static [u8], usize);
 
@@ -18,7 +18,7 @@ fn push_part(text: &mut Vec<u8>, alloc: Global, part: Part) -> Result<(), Fail> 
     Ok(())
 }
 
-// The parts one behind another.
+// The parts one after another.
 pub(crate) fn text_of(alloc: Global, parts: &[Part]) -> Result<Vec<u8>, Fail> {
     let mut text = Vec::new(alloc);
     for part in parts {

@@ -14,7 +14,7 @@ use Rattle.mdb_model.specs.Script.{is_within, is_table, is_key, is_value}
 use Rattle.mdb_bytes.specs.declared.changes.ChangeHead.{ChangeHead}
 use Rattle.mdb_bytes.specs.Fields.{Text, field_fits, fields_fit, spelled, number_at}
 use Rattle.mdb_bytes.specs.Groups.{change_fields, change_fits, change_reads}
-use Rattle.mdb_bytes.specs.LoggedChanges.{BeginsWith}
+use Rattle.mdb_bytes.specs.LoggedChanges.{BeginsWithChange}
 use Rattle.mdb_bytes.specs.ChangeHeads.{head_in, head_for, KeepsHead}
 use Rattle.mdb_bytes.proofs.Decoding.{and_left, and_right, and_both}
 use Rattle.mdb_bytes.proofs.ReadBack.{byte_in, two_in}
@@ -36,7 +36,7 @@ pub right_bytes : (xs ys : List ℕ) → AreBytes (xs ++ ys) → AreBytes ys
 right_bytes [] ys all = all
 right_bytes (x ∷ xs) ys all = right_bytes xs ys (λ k. all (suc k))
 
-pub rest_bytes : (c : Change) (bytes rest : List ℕ) → AreBytes bytes → BeginsWith c bytes rest → AreBytes rest
+pub rest_bytes : (c : Change) (bytes rest : List ℕ) → AreBytes bytes → BeginsWithChange c bytes rest → AreBytes rest
 rest_bytes c bytes rest all b = right_bytes (spelled (change_fields c)) rest (subst AreBytes b.1 all)
 
 fit-with_rest : (c : Change) (rest : List ℕ) → IsTrue (fields_fit (change_fields c)) → AreBytes rest → list_all field_fits (change_fields c ++ (Text rest ∷ [])) ≡ true
@@ -71,7 +71,7 @@ head_kept (Del table key) fit =
     (t.0, t.1, k.0, k.1, omega arith, inr (refl, refl))
 
 -- the front of bytes that begin with a change says its lengths
-pub front-says : (c : Change) (bytes rest : List ℕ) → AreBytes bytes → BeginsWith c bytes rest
+pub front-says : (c : Change) (bytes rest : List ℕ) → AreBytes bytes → BeginsWithChange c bytes rest
     → (head_in bytes ≡ head_for c) × KeepsHead (head_for c) × (length bytes ≡ change_bytes c + length rest)
 front-says c bytes rest all b =
     let fit = and_left (change_fits c) _ b.0 in
@@ -82,11 +82,11 @@ front-says c bytes rest all b =
     )
 
 -- bytes begin with one change at most
-pub same_first : (c d : Change) (bytes rest more : List ℕ) → AreBytes bytes → BeginsWith c bytes rest → BeginsWith d bytes more → (c ≡ d) × (rest ≡ more)
+pub same_first : (c d : Change) (bytes rest more : List ℕ) → AreBytes bytes → BeginsWithChange c bytes rest → BeginsWithChange d bytes more → (c ≡ d) × (rest ≡ more)
 same_first c d bytes rest more all b o =
-    let reads : (c : Change) (rest : List ℕ) → BeginsWith c bytes rest → change_reads bytes ≡ c = λ c rest b.
+    let reads : (c : Change) (rest : List ℕ) → BeginsWithChange c bytes rest → change_reads bytes ≡ c = λ c rest b.
     ap change_reads (b.1 ∙ sym (spelled-with_rest c rest)) ∙ change_again c (Text rest ∷ []) (fit-with_rest c rest (and_right (change_fits c) _ b.0) (rest_bytes c bytes rest all b)) in
-    let behind : (c : Change) (rest : List ℕ) → BeginsWith c bytes rest → drop (change_bytes c) bytes ≡ rest = λ c rest b.
+    let behind : (c : Change) (rest : List ℕ) → BeginsWithChange c bytes rest → drop (change_bytes c) bytes ≡ rest = λ c rest b.
     ap (drop (change_bytes c)) b.1 ∙ drop_at (spelled (change_fields c)) rest (change_bytes c) (length-change c) in
     let same : c ≡ d = sym (reads c rest b) ∙ reads d more o in
     (same, sym (behind c rest b) ∙ ap (λ c. drop (change_bytes c) bytes) same ∙ behind d more o)
@@ -196,7 +196,7 @@ cut_whole bytes head key value rest cut =
     same head cut.head_is (cut_key bytes head key value rest cut) (cut_value bytes head key value rest cut)
 
 pub put_begins : (bytes : List ℕ) (head : ChangeHead) (key value rest : List ℕ) → IsCut bytes head key value rest → head.kind ≡ 1
-    → BeginsWith (Put (record { 0 = head.table }) key value) bytes rest
+    → BeginsWithChange (Put (record { 0 = head.table }) key value) bytes rest
 put_begins bytes head key value rest cut kind =
     let table : Table = record { 0 = head.table } in
     let kept = cut.kept in
@@ -214,7 +214,7 @@ put_begins bytes head key value rest cut kind =
     )
 
 pub del_begins : (bytes : List ℕ) (head : ChangeHead) (key value rest : List ℕ) → IsCut bytes head key value rest → head.kind ≢ 1
-    → BeginsWith (Del (record { 0 = head.table }) key) bytes rest
+    → BeginsWithChange (Del (record { 0 = head.table }) key) bytes rest
 del_begins bytes head key value rest cut kind =
     let table : Table = record { 0 = head.table } in
     let kept = cut.kept in
@@ -237,14 +237,14 @@ head_len : (c : Change) → change_bytes c ≡ 7 + (head_for c).key_len + (head_
 head_len (Put table key value) = refl
 head_len (Del table key) = omega arith
 
-pub too_short : (bytes : List ℕ) → AreBytes bytes → length bytes < 7 → (c : Change) (rest : List ℕ) → BeginsWith c bytes rest → ⊥
+pub too_short : (bytes : List ℕ) → AreBytes bytes → length bytes < 7 → (c : Change) (rest : List ℕ) → BeginsWithChange c bytes rest → ⊥
 too_short bytes all lt c rest b = let says = front-says c bytes rest all b in let len = head_len c in omega (arith, says.2)
 
-pub bad_head : (bytes : List ℕ) (head : ChangeHead) → AreBytes bytes → head ≡ head_in bytes → ¬ (KeepsHead head) → (c : Change) (rest : List ℕ) → BeginsWith c bytes rest → ⊥
+pub bad_head : (bytes : List ℕ) (head : ChangeHead) → AreBytes bytes → head ≡ head_in bytes → ¬ (KeepsHead head) → (c : Change) (rest : List ℕ) → BeginsWithChange c bytes rest → ⊥
 bad_head bytes head all is bad c rest b = let says = front-says c bytes rest all b in bad (subst KeepsHead (sym (is ∙ says.0)) says.1)
 
 pub no_body : (bytes : List ℕ) (head : ChangeHead) → AreBytes bytes → head ≡ head_in bytes → length (drop 7 bytes) < head.key_len + head.value_len
-    → (c : Change) (rest : List ℕ) → BeginsWith c bytes rest → ⊥
+    → (c : Change) (rest : List ℕ) → BeginsWithChange c bytes rest → ⊥
 no_body bytes head all is lt c rest b =
     let says = front-says c bytes rest all b in
     let same : head ≡ head_for c = is ∙ says.0 in

@@ -8,24 +8,25 @@ use Rattle.std.specs.List.{flat_map, list_all}
 use Rattle.std.proofs.lemmas.List.Concat.{flat_map-cons}
 use Rattle.std.proofs.lemmas.List.Folds.{list_all-append}
 use Rattle.std.proofs.lemmas.List.Sums.{sum_by-cons}
+use Rattle.mdb_bytes.proofs.Booleans.{never}
 use Rattle.mdb_bytes.specs.declared.page_sections.PageHead.{PageHead}
 use Rattle.mdb_bytes.specs.Fields.{Field, Zeros, Format, Spells, field_fits, fields_fit, spelled}
 use Rattle.mdb_bytes.specs.Parts.{page_room, fields_len}
-use Rattle.mdb_bytes.specs.EntryPages.{Layout, ascend, IsRun, page_head_fields, HasSections}
+use Rattle.mdb_bytes.specs.EntryPages.{Layout, ascend, IsEntryRun, page_head_fields, HasSections}
 use Rattle.mdb_bytes.proofs.Decoding.{and_left, and_right, and_both}
 use Rattle.mdb_bytes.proofs.GroupLaw.{spelled-append}
 use Rattle.mdb_bytes.proofs.PartBytes.{length-spelled}
 use Rattle.mdb_bytes.proofs.NumberBytes.{AreBytes}
 use Rattle.mdb_bytes.proofs.TableLaws.{fields_len-append}
 use Rattle.mdb_bytes.proofs.PageParts.{sections_same}
-use Rattle.mdb_bytes.proofs.EntryRuns.{IsLayout, never}
+use Rattle.mdb_bytes.proofs.EntryRuns.{IsLayout}
 
 module _ {X : Type 0} (layout : Layout X) where
-  -- all that stands behind the header
+  -- all that stands after the header
   abbrev pub body_fields : List X → List Field
   body_fields xs = flat_map layout.entry.fields xs ++ (Zeros (page_room - sum_by layout.cost xs) ∷ layout.slots 64 (map layout.len xs))
 
-  -- the header and all behind it
+  -- the header and all after it
   abbrev pub page_fields : PageHead → List X → List Field
   page_fields head xs = page_head_fields head ++ body_fields xs
 
@@ -76,7 +77,7 @@ module _ {X : Type 0} (layout : Layout X) where
 
     -- A page as its parts
 
-    -- all that stands behind the header, in parts
+    -- all that stands after the header, in parts
     spelled-body : (xs : List X)
         → spelled (body_fields xs) ≡ spelled (flat_map layout.entry.fields xs) ++ (replicate (page_room - sum_by layout.cost xs) 0 ++ spelled (layout.slots 64 (map layout.len xs)))
     unfolding spelled
@@ -111,7 +112,7 @@ module _ {X : Type 0} (layout : Layout X) where
 
     -- the header and the entries that a page is parted into
     pub page_run : (found head : PageHead) (entries slots : List ℕ) (xs : List X) (bytes : List ℕ) → AreBytes bytes → HasSections slot_len found entries slots bytes → IsEntryPage head xs bytes
-        → (head ≡ found) × IsRun layout None found.count 64 entries slots
+        → (head ≡ found) × IsEntryRun layout None found.count 64 entries slots
     page_run found head entries slots xs bytes all h p =
         let run = spelled (flat_map layout.entry.fields xs) in
         let same = sections_same slot_len head found run (spelled (layout.slots 64 (map layout.len xs))) entries slots bytes all (page_parts head xs bytes p) h in (
@@ -125,8 +126,8 @@ module _ {X : Type 0} (layout : Layout X) where
           },
         )
 
-    -- the entries of a run behind a header are a page
-    pub run_page : (head : PageHead) (entries slots bytes : List ℕ) → HasSections slot_len head entries slots bytes → (run : IsRun layout None head.count 64 entries slots) → IsEntryPage head run.entries bytes
+    -- the entries of a run after a header are a page
+    pub run_page : (head : PageHead) (entries slots bytes : List ℕ) → HasSections slot_len head entries slots bytes → (run : IsEntryRun layout None head.count 64 entries slots) → IsEntryPage head run.entries bytes
     run_page head entries slots bytes h run =
         let xs : List X = run.entries in
         let entries_len : length entries ≡ sum_by layout.len xs = ap length run.spell.1 ∙ length-spelled (flat_map layout.entry.fields xs) ∙ len-entries xs in
@@ -168,7 +169,7 @@ module _ {X : Type 0} (layout : Layout X) where
             never (λ w. (let page = page_of w.0 w.1 in other (subst IsHead (page_run found (head_of w.0) entries slots (xs_of w.0) bytes all h page.1).0 page.0)))
 
         -- others are a page where they have a run
-        pub page_by_run : (b : Bool) → ((xs : List X) → IsEntryPage found xs bytes → (v : V) × Spells format v bytes) → (IsTrue b ↔ IsRun layout None found.count 64 entries slots)
+        pub page_by_run : (b : Bool) → ((xs : List X) → IsEntryPage found xs bytes → (v : V) × Spells format v bytes) → (IsTrue b ↔ IsEntryRun layout None found.count 64 entries slots)
             → IsTrue b ↔ ((v : V) × Spells format v bytes)
         page_by_run b value_of run = (
           λ t. let r = run.0 t in value_of r.entries (run_page found entries slots bytes h r),

@@ -18,7 +18,7 @@ use Rattle.mdb_bytes.proofs.ChildEntries.{child_law, child_front_says}
 use Rattle.mdb_bytes.proofs.TablePageLaws.{leaf_page, index_page_of}
 use Rattle.mdb_bytes.proofs.PageFronts.{front_none, front_some}
 
--- a byte string that stands behind some bytes
+-- a byte string that stands after some bytes
 pub part_behind : (bytes front text rest : List ℕ) (place at : ℕ) → front ≡ drop place bytes → drop at front ≡ text ++ rest → HasPart bytes (place + at, length text) text
 part_behind bytes front text rest place at is behind =
     (ap (take (length text)) (sym (drop-drop at place bytes) ∙ ap (drop at) (sym is) ∙ behind) ∙ take_at text rest (length text) refl, refl)

@@ -1,4 +1,4 @@
--- Entries one behind the other, and what a walk over them keeps.
+-- Entries one after the other, and what a walk over them keeps.
 --     IsLayout      what holds of the layout of a page
 --     entries_first, entries_cons, gives      the first entry and the others
 --     run_on, run_breaks, run_slot, run_lacks, run_ends      one step along a run
@@ -8,9 +8,10 @@ use Rattle.std.specs.List.{flat_map, list_all}
 use Rattle.std.proofs.lemmas.List.{append-nil, take_at, drop_at}
 use Rattle.std.proofs.lemmas.List.Concat.{flat_map-cons}
 use Rattle.std.proofs.lemmas.List.Folds.{list_all-append}
+use Rattle.mdb_bytes.proofs.Booleans.{never}
 use Rattle.mdb_bytes.specs.Fields.{Field, Text, field_fits, fields_fit, spelled}
 use Rattle.mdb_bytes.specs.Parts.{fields_len}
-use Rattle.mdb_bytes.specs.EntryPages.{Layout, follows, ascend, BeginsWith, HasEntries, IsRun}
+use Rattle.mdb_bytes.specs.EntryPages.{Layout, key_follows, ascend, BeginsWith, HasEntries, IsEntryRun}
 use Rattle.mdb_bytes.proofs.Decoding.{and_left, and_right, and_both}
 use Rattle.mdb_bytes.proofs.GroupLaw.{spelled-append}
 use Rattle.mdb_bytes.proofs.PartBytes.{length-spelled}
@@ -34,10 +35,6 @@ pub same_front : (a b c : List ℕ) → a ++ c ≡ b ++ c → a ≡ b
 same_front a b c e =
     let len : length a ≡ length b = let both = ap length e in omega (arith, length-append a c, length-append b c) in
     sym (take_at a c (length a) refl) ∙ ap (take (length a)) e ∙ take_at b c (length a) (sym len)
-
--- a false test of what cannot be
-pub never : {W : Type 0} → ¬ W → IsTrue false ↔ W
-never out = (λ f. absurd cc, λ w. absurd (out w))
 
 module _ {X : Type 0} (layout : Layout X) where
   pub entries_first : (x : X) (xs : List X) (bytes : List ℕ) → HasEntries layout.entry bytes (x ∷ xs)
@@ -124,30 +121,30 @@ module _ {X : Type 0} (layout : Layout X) where
     -- A run of one entry more
 
     -- its last slot is that of its first entry
-    slot_of_first : (last : Option (List ℕ)) (n at : ℕ) (bytes slots : List ℕ) → IsRun layout last (suc n) at bytes slots → (others : List ℕ) × (slots ≡ others ++ spelled (layout.slot at))
+    slot_of_first : (last : Option (List ℕ)) (n at : ℕ) (bytes slots : List ℕ) → IsEntryRun layout last (suc n) at bytes slots → (others : List ℕ) × (slots ≡ others ++ spelled (layout.slot at))
     slot_of_first last n at bytes slots run = by_entries run.entries run.all run.place where
       by_entries : (xs : List X) → length xs ≡ suc n → slots ≡ spelled (layout.slots at (map layout.len xs)) → (others : List ℕ) × (slots ≡ others ++ spelled (layout.slot at))
       by_entries [] all place = absurd (omega arith)
       by_entries (y ∷ ys) all place = (spelled (layout.slots (at + layout.len y) (map layout.len ys)), place ∙ slots_more at y ys)
 
-    begins_some : (last : Option (List ℕ)) (n at : ℕ) (bytes slots : List ℕ) → IsRun layout last (suc n) at bytes slots → (x : X) × (rest : List ℕ) × BeginsWith layout.entry x bytes rest
+    begins_some : (last : Option (List ℕ)) (n at : ℕ) (bytes slots : List ℕ) → IsEntryRun layout last (suc n) at bytes slots → (x : X) × (rest : List ℕ) × BeginsWith layout.entry x bytes rest
     begins_some last n at bytes slots run = by_entries run.entries run.all run.spell where
       by_entries : (xs : List X) → length xs ≡ suc n → HasEntries layout.entry bytes xs → (x : X) × (rest : List ℕ) × BeginsWith layout.entry x bytes rest
       by_entries [] all h = absurd (omega arith)
       by_entries (y ∷ ys) all h = (y, spelled (flat_map layout.entry.fields ys), (entries_first y ys bytes h).0)
 
-    first_follows : (last : Option (List ℕ)) (n at : ℕ) (x : X) (bytes rest slots : List ℕ) → BeginsWith layout.entry x bytes rest → IsRun layout last (suc n) at bytes slots
-        → follows last (layout.key x) ≡ true
+    first_follows : (last : Option (List ℕ)) (n at : ℕ) (x : X) (bytes rest slots : List ℕ) → BeginsWith layout.entry x bytes rest → IsEntryRun layout last (suc n) at bytes slots
+        → key_follows last (layout.key x) ≡ true
     first_follows last n at x bytes rest slots b run = by_entries run.entries run.all run.order run.spell where
-      by_entries : (xs : List X) → length xs ≡ suc n → ascend layout last xs ≡ true → HasEntries layout.entry bytes xs → follows last (layout.key x) ≡ true
+      by_entries : (xs : List X) → length xs ≡ suc n → ascend layout last xs ≡ true → HasEntries layout.entry bytes xs → key_follows last (layout.key x) ≡ true
       by_entries [] all up h = absurd (omega arith)
-      by_entries (y ∷ ys) all up h = subst (λ x. follows last (layout.key x) ≡ true) (gives x y ys bytes rest b h).0 (and_left (follows last (layout.key y)) _ up)
+      by_entries (y ∷ ys) all up h = subst (λ x. key_follows last (layout.key x) ≡ true) (gives x y ys bytes rest b h).0 (and_left (key_follows last (layout.key y)) _ up)
 
     run_rest : (last : Option (List ℕ)) (n at : ℕ) (x : X) (bytes rest slots others : List ℕ) → BeginsWith layout.entry x bytes rest → slots ≡ others ++ spelled (layout.slot at)
-        → IsRun layout last (suc n) at bytes slots → IsRun layout (layout.key x) n (at + layout.len x) rest others
+        → IsEntryRun layout last (suc n) at bytes slots → IsEntryRun layout (layout.key x) n (at + layout.len x) rest others
     run_rest last n at x bytes rest slots others b slot run = by_entries run.entries run.all run.order run.spell run.place where
       by_entries : (xs : List X) → length xs ≡ suc n → ascend layout last xs ≡ true → HasEntries layout.entry bytes xs → slots ≡ spelled (layout.slots at (map layout.len xs))
-          → IsRun layout (layout.key x) n (at + layout.len x) rest others
+          → IsEntryRun layout (layout.key x) n (at + layout.len x) rest others
       by_entries [] all up h place = absurd (omega arith)
       by_entries (y ∷ ys) all up h place =
           let first = gives x y ys bytes rest b h in
@@ -155,17 +152,17 @@ module _ {X : Type 0} (layout : Layout X) where
           same_front others (spelled (layout.slots (at + layout.len y) (map layout.len ys))) (spelled (layout.slot at)) (sym slot ∙ place ∙ slots_more at y ys) in record {
             entries = ys;
             all = omega arith;
-            order = subst (λ x. ascend layout (layout.key x) ys ≡ true) first.0 (and_right (follows last (layout.key y)) _ up);
+            order = subst (λ x. ascend layout (layout.key x) ys ≡ true) first.0 (and_right (key_follows last (layout.key y)) _ up);
             spell = first.1;
             place = subst (λ x. others ≡ spelled (layout.slots (at + layout.len x) (map layout.len ys))) first.0 front;
           }
 
     run_cons : (last : Option (List ℕ)) (n at : ℕ) (x : X) (bytes rest slots others : List ℕ) → BeginsWith layout.entry x bytes rest → slots ≡ others ++ spelled (layout.slot at)
-        → follows last (layout.key x) ≡ true → IsRun layout (layout.key x) n (at + layout.len x) rest others → IsRun layout last (suc n) at bytes slots
+        → key_follows last (layout.key x) ≡ true → IsEntryRun layout (layout.key x) n (at + layout.len x) rest others → IsEntryRun layout last (suc n) at bytes slots
     run_cons last n at x bytes rest slots others b slot up run = record {
       entries = x ∷ run.entries;
       all = ap suc run.all;
-      order = and_both (follows last (layout.key x)) (ascend layout (layout.key x) run.entries) up run.order;
+      order = and_both (key_follows last (layout.key x)) (ascend layout (layout.key x) run.entries) up run.order;
       spell = entries_cons x run.entries bytes rest b run.spell;
       place = slot ∙ ap (λ t. t ++ spelled (layout.slot at)) run.place ∙ sym (slots_more at x run.entries);
     }
@@ -173,19 +170,19 @@ module _ {X : Type 0} (layout : Layout X) where
     count_down : (count i : ℕ) → i < count → count - i ≡ suc (count - (i + 1))
     count_down count i lt = omega arith
 
-    module _ {W : Type 0} (last : Option (List ℕ)) (count i at : ℕ) (bytes slots : List ℕ) (lt : i < count) (w : W ↔ IsRun layout last (count - i) at bytes slots) where
+    module _ {W : Type 0} (last : Option (List ℕ)) (count i at : ℕ) (bytes slots : List ℕ) (lt : i < count) (w : W ↔ IsEntryRun layout last (count - i) at bytes slots) where
       -- W is what is asked for, of all the bytes
-      more : W ↔ IsRun layout last (suc (count - (i + 1))) at bytes slots
-      more = subst (λ n. W ↔ IsRun layout last n at bytes slots) (count_down count i lt) w
+      more : W ↔ IsEntryRun layout last (suc (count - (i + 1))) at bytes slots
+      more = subst (λ n. W ↔ IsEntryRun layout last n at bytes slots) (count_down count i lt) w
 
-      pub run_on : (x : X) (rest others : List ℕ) → BeginsWith layout.entry x bytes rest → slots ≡ others ++ spelled (layout.slot at) → follows last (layout.key x) ≡ true
-          → W ↔ IsRun layout (layout.key x) (count - (i + 1)) (at + layout.len x) rest others
+      pub run_on : (x : X) (rest others : List ℕ) → BeginsWith layout.entry x bytes rest → slots ≡ others ++ spelled (layout.slot at) → key_follows last (layout.key x) ≡ true
+          → W ↔ IsEntryRun layout (layout.key x) (count - (i + 1)) (at + layout.len x) rest others
       run_on x rest others b slot up = (
         λ a. run_rest last (count - (i + 1)) at x bytes rest slots others b slot (more.0 a),
         λ run. more.1 (run_cons last (count - (i + 1)) at x bytes rest slots others b slot up run),
       )
 
-      pub run_breaks : (x : X) (rest : List ℕ) → BeginsWith layout.entry x bytes rest → follows last (layout.key x) ≡ false → IsTrue false ↔ W
+      pub run_breaks : (x : X) (rest : List ℕ) → BeginsWith layout.entry x bytes rest → key_follows last (layout.key x) ≡ false → IsTrue false ↔ W
       run_breaks x rest b down = never (λ a. (let up = first_follows last (count - (i + 1)) at x bytes rest slots b (more.0 a) in absurd cc))
 
       pub run_slot : ((others : List ℕ) → slots ≡ others ++ spelled (layout.slot at) → ⊥) → IsTrue false ↔ W
@@ -195,7 +192,7 @@ module _ {X : Type 0} (layout : Layout X) where
       run_lacks none = never (λ a. let first = begins_some last (count - (i + 1)) at bytes slots (more.0 a) in none first.0 first.1 first.2)
 
     pub run_ends : {W : Type 0} (last : Option (List ℕ)) (n at : ℕ) (bytes slots : List ℕ) (b : Bool) → n ≡ 0 → (IsTrue b ↔ ((bytes ≡ []) × (slots ≡ [])))
-        → (W ↔ IsRun layout last n at bytes slots) → IsTrue b ↔ W
+        → (W ↔ IsEntryRun layout last n at bytes slots) → IsTrue b ↔ W
     unfolding spelled
     run_ends last n at bytes slots b zero_is empty w = (
       λ t. w.1 (record {

@@ -1,4 +1,4 @@
--- How long groups are, and that the log depends on no byte behind its closed gate.
+-- How long groups are, and that the log depends on no byte after its closed gate.
 use Rattle.std.proofs.Common.{◌≡◌, refl, sym, ap, ◌∙◌, ℕ, zero, suc, ◌+◌, ◌<◌, ◌≤◌, ◌==◌, true, false, cond, ◌&&◌, List, [], ◌∷◌, ◌++◌, length, sum_by, Option, Some, None, arith, length-append, append_assoc}
 use Rattle.std.specs.Prelude.{option_map, option_and_then}
 use Rattle.std.specs.List.{flat_map}

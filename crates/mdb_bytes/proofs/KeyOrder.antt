@@ -8,7 +8,7 @@ use Rattle.std.specs.Ordering.{nat_cmp, is_lt}
 use Rattle.std.specs.Cmp.Lexicographic.{slice_cmp, nat_list_cmp_total}
 use Rattle.std.specs.FinMap.Entries.{below_all}
 use Rattle.mdb_bytes.specs.Fields.{rises}
-use Rattle.mdb_bytes.specs.EntryPages.{Layout, follows, ascend}
+use Rattle.mdb_bytes.specs.EntryPages.{Layout, key_follows, ascend}
 use Rattle.mdb_bytes.proofs.Decoding.{and_left, and_right, and_both}
 
 less : (o : Ordering) → is_lt o ≡ true → o ≡ Less
@@ -25,10 +25,10 @@ abbrev before_all : List ℕ → List (List ℕ) → Bool
 before_all key [] = true
 before_all key (other ∷ keys) = before key other && before_all key keys
 
--- whether keys ascend behind the last one
+-- whether keys ascend after the last one
 abbrev keys_up : Option (List ℕ) → List (List ℕ) → Bool
 keys_up last [] = true
-keys_up last (key ∷ keys) = follows last (Some key) && keys_up (Some key) keys
+keys_up last (key ∷ keys) = key_follows last (Some key) && keys_up (Some key) keys
 
 -- a key as an entry
 abbrev with_unit : List ℕ → List ℕ × Unit {0}
@@ -81,7 +81,7 @@ module _ {X : Type 0} (layout : Layout X) (key : X → List ℕ) (is : (x : X) �
   ascend-keys : (last : Option (List ℕ)) (xs : List X) → ascend layout last xs ≡ keys_up last (map key xs)
   ascend-keys last [] = refl
   ascend-keys last (x ∷ xs) =
-      (λ i. follows last (is x i) && ascend layout (is x i) xs) ∙ ap (λ b. follows last (Some (key x)) && b) (ascend-keys (Some (key x)) xs)
+      (λ i. key_follows last (is x i) && ascend layout (is x i) xs) ∙ ap (λ b. key_follows last (Some (key x)) && b) (ascend-keys (Some (key x)) xs)
 
   pub ascend-rises : (xs : List X) → ascend layout None xs ≡ true → rises (slice_cmp nat_cmp) (map key xs) ≡ true
   ascend-rises xs up = up-rises (map key xs) (sym (ascend-keys None xs) ∙ up)

@@ -17,14 +17,14 @@ use Rattle.mdb_model.specs.declared.script.PageKind.TheVariants.{Complete, Incre
 use Rattle.mdb_bytes.specs.declared.medium_pages.LiveSet.{LiveSet}
 use Rattle.mdb_bytes.specs.Fields.{Field, Zeros, Text, ReadsBack, field_fits, spelled, number_at}
 use Rattle.mdb_bytes.specs.Parts.{HasLength}
-use Rattle.mdb_bytes.specs.MediumPages.{kind_number, kind_of, medium_header_fields, medium_header_fits, medium_header_format, live_set_front, live_set_fields, live_set_fits, live_set_format, device_kind, device_number, device_of, rule_number, rule_of, check_report_fields, check_report_fits, check_report_format}
+use Rattle.mdb_bytes.specs.MediumPages.{kind_number, backup_kind_of, medium_header_fields, medium_header_fits, medium_header_format, live_set_front, live_set_fields, live_set_fits, live_set_format, device_kind, device_number, device_of, rule_number, rule_of, check_report_fields, check_report_fits, check_report_format}
 use Rattle.mdb_bytes.proofs.Decoding.{and_left, and_right}
 use Rattle.mdb_bytes.proofs.ReadBack.{byte_in, two_in, four_in, eight_in}
 use Rattle.mdb_bytes.proofs.PartBytes.{length-spelled}
 use Rattle.mdb_bytes.proofs.TableLaws.{drop_fields}
 
 -- a kind is read again
-kind_again : (kind : BackupKind) → kind_of (kind_number kind) ≡ kind
+kind_again : (kind : BackupKind) → backup_kind_of (kind_number kind) ≡ kind
 kind_again (OfPages Complete) = refl
 kind_again (OfPages Incremental) = refl
 kind_again OfLog = refl
@@ -38,7 +38,7 @@ pub medium_header_again : ReadsBack medium_header_format
 medium_header_again v kept =
     let fs = medium_header_fields v in
     let fit : list_all field_fits fs ≡ true = and_right (medium_header_fits v) _ kept in
-    let kind : kind_of (number_at 4 12 (spelled fs)) ≡ v.kind = ap kind_of (four_in fs 12 (kind_number v.kind) fit refl) ∙ kind_again v.kind in
+    let kind : backup_kind_of (number_at 4 12 (spelled fs)) ≡ v.kind = ap backup_kind_of (four_in fs 12 (kind_number v.kind) fit refl) ∙ kind_again v.kind in
     λ i. record {
       format = four_in fs 8 v.format fit refl i;
       kind = kind i;

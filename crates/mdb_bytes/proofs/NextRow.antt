@@ -1,4 +1,4 @@
--- The first row of a table behind a key, by look-ups.
+-- The first row of a table after a key, by look-ups.
 --     IsFound      the first entry of a sorted list whose key passes a test
 --     is_next, is_last      what next_row gives, where it gives a row and where it gives none
 --     next_is, none_is      what gives so is next_row
@@ -12,6 +12,8 @@ use Rattle.std.specs.Cmp.Lexicographic.{nat_list_cmp_total, slice_cmp}
 use Rattle.std.specs.FinMap.{get, find, entries, entries_sorted, get-entries, is_sorted, IsAntisymmetric, nat_cmp-IsAntisymmetric, slice_cmp-IsAntisymmetric}
 use Rattle.std.specs.FinMap.Entries.{below_all}
 use Rattle.std.proofs.lemmas.Map.Lookups.{exact_pairs}
+use Rattle.mdb_bytes.proofs.Decoding.{and_left, and_right}
+use Rattle.mdb_bytes.proofs.Booleans.{first_holds, second_holds}
 use Rattle.mdb_model.specs.Tables.{Place, Tables, place_cmp}
 use Rattle.mdb_bytes.specs.Held.{next_row, is_before}
 
@@ -22,14 +24,6 @@ pub place_exact : IsAntisymmetric place_cmp
 place_exact = exact_pairs nat_cmp (slice_cmp nat_cmp) nat_cmp-IsAntisymmetric (slice_cmp-IsAntisymmetric nat_cmp-IsAntisymmetric)
 
 -- Truth values
-
-first : (a b : Bool) → T (a && b) → T a
-first true b p = tt
-first false b p = p
-
-second : (a b : Bool) → T (a && b) → T b
-second true b p = p
-second false b p = absurd p
 
 less : (o : Ordering) → T (is_lt o) → o ≡ Less
 less Less p = refl
@@ -48,13 +42,13 @@ module _ {K X : Type 0} (R : K → K → Ordering) (o : IsTotalOrder R) where
   -- no entry has a key that is lower than all
   pub find-below : (q : K) (es : List (K × X)) → T (below_all R q es) → find R q es ≡ None
   find-below q [] below = refl
-  find-below q (e ∷ es) below = ap (λ r. cond (is_eq r) (Some e.1) (find R q es)) (less _ (first _ _ below)) ∙ find-below q es (second _ _ below)
+  find-below q (e ∷ es) below = ap (λ r. cond (is_eq r) (Some e.1) (find R q es)) (less _ (first_holds _ _ below)) ∙ find-below q es (second_holds _ _ below)
 
   below-less : (q k : K) (es : List (K × X)) → R q k ≡ Less → T (below_all R k es) → T (below_all R q es)
   below-less q k [] lower below = tt
   below-less q k (e ∷ es) lower below =
-      let here : R q e.0 ≡ Less = o.trans q k e.0 lower (less _ (first _ _ below)) in
-      subst (λ r. T (is_lt r && below_all R q es)) (sym here) (below-less q k es lower (second _ _ below))
+      let here : R q e.0 ≡ Less = o.trans q k e.0 lower (less _ (first_holds _ _ below)) in
+      subst (λ r. T (is_lt r && below_all R q es)) (sym here) (below-less q k es lower (second_holds _ _ below))
 
   module _ (exact : IsAntisymmetric R) (test : K → Bool) where
     -- an entry that fails is not the one of a key that passes
@@ -67,12 +61,12 @@ module _ {K X : Type 0} (R : K → K → Ordering) (o : IsTotalOrder R) where
 
     found : (es : List (K × X)) (e : K × X) → T (is_sorted R es) → first_of (λ e. test e.0) es ≡ Some e → IsFound R test es e
     found [] e sorted is = cc
-    found (x ∷ es) e sorted is = by_test (found es e (second _ _ sorted)) (test x.0) refl is where
+    found (x ∷ es) e sorted is = by_test (found es e (second_holds _ _ sorted)) (test x.0) refl is where
       by_test : (first_of (λ e. test e.0) es ≡ Some e → IsFound R test es e) → (b : Bool) → test x.0 ≡ b → cond b (Some x) (first_of (λ e. test e.0) es) ≡ Some e → IsFound R test (x ∷ es) e
       by_test rest true passes is_e = subst (IsFound R test (x ∷ es)) (ap (λ s. unwrap_or s x) is_e) (record {
         there = ap (λ r. cond (is_eq r) (Some x.1) (find R x.0 es)) (tied_itself o x.0);
         passes = passes;
-        least = λ q passes_q lower. ap (λ r. cond (is_eq r) (Some x.1) (find R q es)) lower ∙ find-below q es (below-less q x.0 es lower (first _ _ sorted));
+        least = λ q passes_q lower. ap (λ r. cond (is_eq r) (Some x.1) (find R q es)) lower ∙ find-below q es (below-less q x.0 es lower (first_holds _ _ sorted));
       })
       by_test rest false fails is_e =
           let behind = rest is_e in record {
@@ -97,13 +91,13 @@ module _ {K X : Type 0} (R : K → K → Ordering) (o : IsTotalOrder R) where
       by_test rest true passes is_none = cc
       by_test rest false fails is_none = rest is_none
 
-    -- the test that passes what the other does behind a key
+    -- the test that passes what the other does after a key
     module _ (later : K → Bool) (k : K) (is_later : (q : K) → later q ≡ (test q && is_lt (R k q))) where
       later-below : (es : List (K × X)) → T (below_all R k es) → filter (λ e. later e.0) es ≡ filter (λ e. test e.0) es
       later-below [] below = refl
       later-below (x ∷ es) below =
-          let same : later x.0 ≡ test x.0 = is_later x.0 ∙ ap (λ r. test x.0 && is_lt r) (less _ (first _ _ below)) ∙ and_true (test x.0) in
-          λ i. cond (same i) (x ∷ later-below es (second _ _ below) i) (later-below es (second _ _ below) i)
+          let same : later x.0 ≡ test x.0 = is_later x.0 ∙ ap (λ r. test x.0 && is_lt r) (less _ (first_holds _ _ below)) ∙ and_true (test x.0) in
+          λ i. cond (same i) (x ∷ later-below es (second_holds _ _ below) i) (later-below es (second_holds _ _ below) i)
         where
           and_true : (b : Bool) → (b && true) ≡ b
           and_true true = refl
@@ -112,13 +106,13 @@ module _ {K X : Type 0} (R : K → K → Ordering) (o : IsTotalOrder R) where
     pub rest_left : (es : List (K × X)) (e : K × X) → T (is_sorted R es) → first_of (λ e. test e.0) es ≡ Some e → (later : K → Bool) → ((q : K) → later q ≡ (test q && is_lt (R e.0 q)))
         → filter (λ e. test e.0) es ≡ e ∷ filter (λ e. later e.0) es
     rest_left [] e sorted is later is_later = cc
-    rest_left (x ∷ es) e sorted is later is_later = by_test (λ is_e. rest_left es e (second _ _ sorted) is_e later is_later) (test x.0) refl is where
+    rest_left (x ∷ es) e sorted is later is_later = by_test (λ is_e. rest_left es e (second_holds _ _ sorted) is_e later is_later) (test x.0) refl is where
       by_test : (first_of (λ e. test e.0) es ≡ Some e → filter (λ e. test e.0) es ≡ e ∷ filter (λ e. later e.0) es) → (b : Bool) → test x.0 ≡ b → cond b (Some x) (first_of (λ e. test e.0) es) ≡ Some e
           → cond b (x ∷ filter (λ e. test e.0) es) (filter (λ e. test e.0) es) ≡ e ∷ filter (λ e. later e.0) (x ∷ es)
       by_test rest true passes is_e =
           let same : x ≡ e = ap (λ s. unwrap_or s x) is_e in
           let not_later : later x.0 ≡ false = is_later x.0 ∙ (λ i. test x.0 && is_lt (R (sym same i).0 x.0)) ∙ (λ i. passes i && is_lt (tied_itself o x.0 i)) in
-          let below : T (below_all R e.0 es) = subst (λ (y : K × X). T (below_all R y.0 es)) same (first _ _ sorted) in
+          let below : T (below_all R e.0 es) = subst (λ (y : K × X). T (below_all R y.0 es)) same (first_holds _ _ sorted) in
           (λ i. same i ∷ sym (later-below later e.0 is_later es below) i)
           ∙ ap (λ b. e ∷ cond b (x ∷ filter (λ e. later e.0) es) (filter (λ e. later e.0) es)) (sym not_later)
       by_test rest false fails is_e =
@@ -130,13 +124,13 @@ module _ {K X : Type 0} (R : K → K → Ordering) (o : IsTotalOrder R) where
 pub before-is : (table : ℕ) (a b : List ℕ) → is_lt (place_cmp (table, a) (table, b)) ≡ is_before a b
 before-is table a b = ap (λ r. is_lt (ordering_then r (slice_cmp nat_cmp a b))) (tied_itself nat_cmp_total table)
 
--- a row is the next one of a table behind a key
+-- a row is the next one of a table after a key
 pub record IsNext (tables : Tables) (table : ℕ) (after key value : List ℕ) : Type 0 where
   pub there : get tables (table, key) ≡ Some value
   pub later : is_before after key ≡ true
   pub least : (other : List ℕ) → is_before after other ≡ true → is_before other key ≡ true → get tables (table, other) ≡ None
 
--- a table has no row behind a key
+-- a table has no row after a key
 abbrev pub IsLast : Tables → (table : ℕ) → (after : List ℕ) → Type 0
 IsLast tables table after = (other : List ℕ) → is_before after other ≡ true → get tables (table, other) ≡ None
 
@@ -149,19 +143,11 @@ behind-here table after key later = λ i. eq-eqb table table refl i && later i
 pub before-less : (table : ℕ) (a b : List ℕ) → is_before a b ≡ true → place_cmp (table, a) (table, b) ≡ Less
 before-less table a b is = less _ (subst T (sym (before-is table a b ∙ is)) tt)
 
-and_first : (a b : Bool) → (a && b) ≡ true → a ≡ true
-and_first true b is = refl
-and_first false b is = cc
-
-and_second : (a b : Bool) → (a && b) ≡ true → b ≡ true
-and_second true b is = is
-and_second false b is = cc
-
 -- an entry of the table with these parts
 entry_is : (table : ℕ) (after : List ℕ) (e : Place × List ℕ) (key value : List ℕ) → is_behind table after e.0 ≡ true → option_map {U = List ℕ × List ℕ} (λ (e : Place × List ℕ). (e.0.1, e.1)) (Some e) ≡ Some (key, value) → ◌≡◌ {A = Place × List ℕ} e ((table, key), value)
 entry_is table after e key value passes row =
     let parts : ◌≡◌ {A = List ℕ × List ℕ} (e.0.1, e.1) (key, value) = ap (λ (s : Option (List ℕ × List ℕ)). unwrap_or s (key, value)) row in
-    let same_table : e.0.0 ≡ table = eqb-true e.0.0 table (and_first (e.0.0 == table) (is_before after e.0.1) passes) in
+    let same_table : e.0.0 ≡ table = eqb-true e.0.0 table (and_left (e.0.0 == table) (is_before after e.0.1) passes) in
     λ i. ((same_table i, (parts i).0), (parts i).1)
 
 module _ (tables : Tables) (table : ℕ) (after : List ℕ) where
@@ -189,7 +175,7 @@ module _ (tables : Tables) (table : ℕ) (after : List ℕ) where
   is_next key value is =
       let first_found = found place_cmp place_total place_exact (is_behind table after) (entries tables) ((table, key), value) sorted (next_entry key value is) in record {
         there = get-entries tables (table, key) ∙ first_found.there;
-        later = and_second (table == table) (is_before after key) first_found.passes;
+        later = and_right (table == table) (is_before after key) first_found.passes;
         least = λ other behind before. get-entries tables (table, other) ∙ first_found.least (table, other) (behind-here table after other behind) (before-less table other key before);
       }
 

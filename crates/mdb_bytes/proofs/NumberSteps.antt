@@ -1,5 +1,5 @@
--- Numbers one behind the other, as they stand in bytes.
---     number_step      a number and what stands behind it
+-- Numbers one after the other, as they stand in bytes.
+--     number_step      a number and what stands after it
 --     number_below      how great it may be
 use Rattle.std.proofs.Common.{◌≡◌, sym, ap, ◌∙◌, ℕ, ◌+◌, ◌<◌, ◌≤◌, ◌^◌, List, ◌++◌, length, drop, arith}
 use Rattle.std.proofs.lemmas.List.{drop-drop, length-drop}

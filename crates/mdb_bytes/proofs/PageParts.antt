@@ -48,7 +48,7 @@ header_says h bytes rest all fits whole =
       next = four_in fs 12 h.next fit refl i;
     }
 
--- the zeros behind them
+-- the zeros after them
 header_zeros : (h : PageHead) (rest : List ℕ) → take 48 (drop 16 (spelled (page_head_fields h) ++ rest)) ≡ replicate 48 0
 unfolding spelled
 header_zeros h rest = refl
@@ -56,7 +56,7 @@ header_zeros h rest = refl
 header_body : (h : PageHead) (rest : List ℕ) → drop 64 (spelled (page_head_fields h) ++ rest) ≡ rest
 header_body h rest = drop_at (spelled (page_head_fields h)) rest 64 (length-header h)
 
--- numbers, and zeros behind them, spell a header
+-- numbers, and zeros after them, spell a header
 header_front : (bytes : List ℕ) → AreBytes bytes → 64 ≤ length bytes
     → bytes ≡ big_bytes 1 (number_at 1 0 bytes) ++ (big_bytes 1 (number_at 1 1 bytes) ++ (big_bytes 2 (number_at 2 2 bytes) ++ (big_bytes 4 (number_at 4 4 bytes)
     ++ (big_bytes 2 (number_at 2 8 bytes) ++ (big_bytes 2 (number_at 2 10 bytes) ++ (big_bytes 4 (number_at 4 12 bytes) ++ drop 16 bytes))))))

@@ -37,7 +37,7 @@ module _ {X : Type 0} (layout : Layout X) (slot_len : ℕ) (law : IsLayout layou
       ap (λ x. drop (layout.len x) bytes) first ∙ ap (λ (fs : List Field). drop (layout.len x) (spelled fs)) parts ∙ drop_fields (fields x) rest (layout.len x) (law.len_is x) in
       (λ i. first i ∷ read_run reads layout.len (length xs) (behind i)) ∙ ap (λ xs. x ∷ xs) (entries_again xs more (all_right (fields x) rest fit_parts))
 
-  -- those of a page, behind its header
+  -- those of a page, after its header
   page_again : (head : PageHead) (xs : List X) → head.count ≡ length xs → list_all field_fits (page_fields layout head xs) ≡ true
       → read_run layout.entry.reads layout.len (count_on (spelled (page_fields layout head xs))) (drop 64 (spelled (page_fields layout head xs))) ≡ xs
   page_again head xs count fit =

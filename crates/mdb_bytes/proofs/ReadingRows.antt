@@ -37,7 +37,7 @@ header_there : decoded medium_header_format (take 8191 (backup_bytes 84 two_comm
 unfolding spelled decoded number_at read_run
 header_there = refl
 
--- behind it stand the two groups, of 42 bytes each
+-- after it stand the two groups, of 42 bytes each
 group_there : take 84 (drop 8192 (backup_bytes 84 two_commits))
     ≡ spelled (group_fields (record { name = name; number = 1; changes = one_commit.changes })) ++ spelled (group_fields (record { name = name; number = 2; changes = one_commit.changes }))
 unfolding spelled

@@ -11,8 +11,8 @@ use Rattle.mdb_model.specs.Tables.{Place, place_cmp, place_of}
 use Rattle.mdb_model.proofs.Computing.{places_total}
 use Rattle.mdb_bytes.specs.Fields.{rises, spelled}
 use Rattle.mdb_bytes.specs.Groups.{change_fields}
-use Rattle.mdb_bytes.specs.LoggedChanges.{BeginsWith, HasChanges}
-use Rattle.mdb_bytes.specs.ChangeOrder.{follows, ascends, IsRun}
+use Rattle.mdb_bytes.specs.LoggedChanges.{BeginsWithChange, HasChanges}
+use Rattle.mdb_bytes.specs.ChangeOrder.{place_follows, ascends, IsChangeRun}
 use Rattle.mdb_bytes.proofs.Decoding.{and_left, and_right, and_both}
 use Rattle.mdb_bytes.proofs.ChangeRuns.{changes-first, changes-cons, gives_some}
 
@@ -75,44 +75,44 @@ rises-ascends (c ∷ cs) up =
 
 -- One step along a run
 
-run_parts : (last : Option Place) (n : ℕ) (c : Change) (bytes rest : List ℕ) → BeginsWith c bytes rest → IsRun last (suc n) bytes → (follows last (place_of c) ≡ true) × IsRun (Some (place_of c)) n rest
-unfolding IsRun
+run_parts : (last : Option Place) (n : ℕ) (c : Change) (bytes rest : List ℕ) → BeginsWithChange c bytes rest → IsChangeRun last (suc n) bytes → (place_follows last (place_of c) ≡ true) × IsChangeRun (Some (place_of c)) n rest
+unfolding IsChangeRun
 run_parts last n c bytes rest b run =
     let given = gives_some c bytes rest b run.0 run.3 in
     let asc : ascends last (c ∷ given.0) ≡ true = ap (ascends last) (sym given.1) ∙ run.2 in
     let len : suc (length given.0) ≡ suc n = ap length (sym given.1) ∙ run.1 in
-    (and_left (follows last (place_of c)) _ asc, (given.0, omega arith, and_right (follows last (place_of c)) _ asc, given.2))
+    (and_left (place_follows last (place_of c)) _ asc, (given.0, omega arith, and_right (place_follows last (place_of c)) _ asc, given.2))
 
-run_cons : (last : Option Place) (n : ℕ) (c : Change) (bytes rest : List ℕ) → BeginsWith c bytes rest → follows last (place_of c) ≡ true → IsRun (Some (place_of c)) n rest → IsRun last (suc n) bytes
-unfolding IsRun
+run_cons : (last : Option Place) (n : ℕ) (c : Change) (bytes rest : List ℕ) → BeginsWithChange c bytes rest → place_follows last (place_of c) ≡ true → IsChangeRun (Some (place_of c)) n rest → IsChangeRun last (suc n) bytes
+unfolding IsChangeRun
 run_cons last n c bytes rest b up run =
-    (c ∷ run.0, ap suc run.1, and_both (follows last (place_of c)) (ascends (Some (place_of c)) run.0) up run.2, changes-cons c run.0 bytes rest b run.3)
+    (c ∷ run.0, ap suc run.1, and_both (place_follows last (place_of c)) (ascends (Some (place_of c)) run.0) up run.2, changes-cons c run.0 bytes rest b run.3)
 
 count_down : (count i : ℕ) → i < count → count - i ≡ suc (count - (i + 1))
 count_down count i lt = omega arith
 
 -- W is what is asked for, of all the bytes
-pub run_on : {W : Type 0} (last : Option Place) (count i : ℕ) (c : Change) (bytes rest : List ℕ) → i < count → BeginsWith c bytes rest → follows last (place_of c) ≡ true
-    → (W ↔ IsRun last (count - i) bytes) → (W ↔ IsRun (Some (place_of c)) (count - (i + 1)) rest)
+pub run_on : {W : Type 0} (last : Option Place) (count i : ℕ) (c : Change) (bytes rest : List ℕ) → i < count → BeginsWithChange c bytes rest → place_follows last (place_of c) ≡ true
+    → (W ↔ IsChangeRun last (count - i) bytes) → (W ↔ IsChangeRun (Some (place_of c)) (count - (i + 1)) rest)
 run_on {W = W} last count i c bytes rest lt b up w =
-    let w0 = subst (λ n. W ↔ IsRun last n bytes) (count_down count i lt) w in
+    let w0 = subst (λ n. W ↔ IsChangeRun last n bytes) (count_down count i lt) w in
     (λ x. (run_parts last (count - (i + 1)) c bytes rest b (w0.0 x)).1, λ run. w0.1 (run_cons last (count - (i + 1)) c bytes rest b up run))
 
-pub run_breaks : {W : Type 0} (last : Option Place) (count i : ℕ) (c : Change) (bytes rest : List ℕ) → i < count → BeginsWith c bytes rest → follows last (place_of c) ≡ false
-    → (W ↔ IsRun last (count - i) bytes) → (IsTrue false ↔ W)
+pub run_breaks : {W : Type 0} (last : Option Place) (count i : ℕ) (c : Change) (bytes rest : List ℕ) → i < count → BeginsWithChange c bytes rest → place_follows last (place_of c) ≡ false
+    → (W ↔ IsChangeRun last (count - i) bytes) → (IsTrue false ↔ W)
 run_breaks {W = W} last count i c bytes rest lt b down w =
-    let w0 = subst (λ n. W ↔ IsRun last n bytes) (count_down count i lt) w in
+    let w0 = subst (λ n. W ↔ IsChangeRun last n bytes) (count_down count i lt) w in
     (λ f. absurd cc, λ x. let up = (run_parts last (count - (i + 1)) c bytes rest b (w0.0 x)).0 in absurd cc)
 
-none_first : (last : Option Place) (n : ℕ) (bytes : List ℕ) → ((c : Change) (rest : List ℕ) → BeginsWith c bytes rest → ⊥) → (cs : List Change) → length cs ≡ suc n → HasChanges bytes cs → ⊥
+none_first : (last : Option Place) (n : ℕ) (bytes : List ℕ) → ((c : Change) (rest : List ℕ) → BeginsWithChange c bytes rest → ⊥) → (cs : List Change) → length cs ≡ suc n → HasChanges bytes cs → ⊥
 none_first last n bytes none [] len h = omega arith
 none_first last n bytes none (c ∷ cs) len h = none c (spelled (flat_map change_fields cs)) (changes-first c cs bytes h).0
 
-pub run_lacks : {W : Type 0} (last : Option Place) (count i : ℕ) (bytes : List ℕ) → i < count → ((c : Change) (rest : List ℕ) → BeginsWith c bytes rest → ⊥)
-    → (W ↔ IsRun last (count - i) bytes) → (IsTrue false ↔ W)
-unfolding IsRun
+pub run_lacks : {W : Type 0} (last : Option Place) (count i : ℕ) (bytes : List ℕ) → i < count → ((c : Change) (rest : List ℕ) → BeginsWithChange c bytes rest → ⊥)
+    → (W ↔ IsChangeRun last (count - i) bytes) → (IsTrue false ↔ W)
+unfolding IsChangeRun
 run_lacks {W = W} last count i bytes lt none w =
-    let w0 = subst (λ n. W ↔ IsRun last n bytes) (count_down count i lt) w in
+    let w0 = subst (λ n. W ↔ IsChangeRun last n bytes) (count_down count i lt) w in
     (λ f. absurd cc, λ x. let run = w0.0 x in absurd (none_first last (count - (i + 1)) bytes none run.0 run.1 run.3))
 
 no_bytes : (cs : List Change) → length cs ≡ 0 → (bytes : List ℕ) → HasChanges bytes cs → bytes ≡ []
@@ -120,8 +120,8 @@ unfolding spelled
 no_bytes [] len bytes h = h.1
 no_bytes (c ∷ cs) len bytes h = absurd (omega arith)
 
-pub run_ends : {W : Type 0} (last : Option Place) (n : ℕ) (bytes : List ℕ) (b : Bool) → n ≡ 0 → (IsTrue b ↔ (bytes ≡ [])) → (W ↔ IsRun last n bytes) → (IsTrue b ↔ W)
-unfolding IsRun spelled
+pub run_ends : {W : Type 0} (last : Option Place) (n : ℕ) (bytes : List ℕ) (b : Bool) → n ≡ 0 → (IsTrue b ↔ (bytes ≡ [])) → (W ↔ IsChangeRun last n bytes) → (IsTrue b ↔ W)
+unfolding IsChangeRun spelled
 run_ends last n bytes b zero_is empty w = (
   λ t. w.1 ([], sym zero_is, refl, (refl, empty.0 t)),
   λ x. let run = w.0 x in empty.1 (no_bytes run.0 (run.1 ∙ zero_is) bytes run.3),

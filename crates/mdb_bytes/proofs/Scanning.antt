@@ -35,7 +35,7 @@ left_none : {A : Type 0} (tie : Bool) (v : A) (o : Option A) → cond tie (Some 
 left_none true v o is = cc
 left_none false v o is = is
 
--- no key but the empty one is not behind the empty one
+-- no key but the empty one is not after the empty one
 test-same : (table t : ℕ) (key : List ℕ) → is_eq (place_cmp (table, []) (t, key)) ≡ false → (t == table) ≡ is_behind table [] (t, key)
 test-same table t (b ∷ key) apart = and_true (t == table)
 test-same table t [] apart = by_table (t == table) refl where
@@ -61,7 +61,7 @@ before_both after key other a b = ap is_lt (nat_list_cmp_total.trans after key o
   less {r = Equal} is = cc
   less {r = Greater} is = cc
 
--- behind a later key, by what is behind an earlier one
+-- after a later key, by what is after an earlier one
 later-is : (table : ℕ) (after key : List ℕ) → is_before after key ≡ true → (q : Place) → is_behind table key q ≡ (is_behind table after q && is_lt (place_cmp (table, key) q))
 later-is table after key later q = by_table (q.0 == table) refl where
   by_key : (b : Bool) → is_before key q.1 ≡ b → is_before key q.1 ≡ (is_before after q.1 && is_before key q.1)
@@ -85,7 +85,7 @@ module _ (tables : Tables) (table : ℕ) where
   scan_first none = record { split = ap (map (λ e. Row e.0.1 e.1)) (all_behind table (entries tables) (sym (get-entries tables (table, [])) ∙ none)) }
 
   module _ (after : List ℕ) where
-    -- the next row is the first of those behind the key
+    -- the next row is the first of those after the key
     pub behind_front : (key value : List ℕ) → next_row tables table after ≡ Some (key, value) → rows_behind tables table after ≡ Row key value ∷ rows_behind tables table key
     behind_front key value is =
         ap (map (λ e. Row e.0.1 e.1))

@@ -13,7 +13,7 @@ use Rattle.mdb_bytes.specs.declared.restart_record.SnapshotEntry.{SnapshotEntry}
 use Rattle.mdb_bytes.specs.declared.restart_record.RestartRecord.{RestartRecord}
 use Rattle.mdb_bytes.specs.Fields.{Field, Zeros, ReadsBack, field_fits, spelled, number_at, read_run}
 use Rattle.mdb_bytes.specs.Parts.{HasLength, fields_len, table_fields, word_format, ascend_from}
-use Rattle.mdb_bytes.specs.SlotRecords.{log_info_format, log_info_fields, log_info_fits, state_number, state_of, snapshot_fields, snapshot_reads, snapshot_fits, snapshot_format, restart_front, restart_middle, restart_fields, restart_fits, restart_numbers_fit, restart_tables_fit, restart_format}
+use Rattle.mdb_bytes.specs.SlotRecords.{log_info_format, log_info_fields, log_info_fits, state_number, area_state_of, snapshot_fields, snapshot_reads, snapshot_fits, snapshot_format, restart_front, restart_middle, restart_fields, restart_fits, restart_numbers_fit, restart_tables_fit, restart_format}
 use Rattle.mdb_bytes.proofs.Decoding.{and_left, and_right}
 use Rattle.mdb_bytes.proofs.GroupBack.{all_right}
 use Rattle.mdb_bytes.proofs.ReadBack.{four_in, eight_in}
@@ -62,7 +62,7 @@ pub length-snapshot_entry : HasLength snapshot_format 32
 length-snapshot_entry v kept = length-spelled (snapshot_fields v)
 
 -- a state is read again
-state_again : (state : AreaState) → state_of (state_number state) ≡ state
+state_again : (state : AreaState) → area_state_of (state_number state) ≡ state
 state_again Normal = refl
 state_again RestoreOpen = refl
 
@@ -134,7 +134,7 @@ restart_again v kept =
     let snapshots : read_run snapshot_reads (λ e. 32) (min (number_at 4 116 bytes) 8) (drop 128 bytes) ≡ v.snapshots.items =
     (λ i. read_run snapshot_reads (λ e. 32) (snapshot_count i) (at_snaps i))
     ∙ rows_again snapshot_fields 32 (λ e. refl) snapshot_reads snapshot_again v.snapshots.items (Zeros (8063 - 32 * length v.snapshots.items) ∷ []) (all_right (restart_middle v) snaps fit_second) in
-    let state : state_of (number_at 4 12 bytes) ≡ v.state = ap state_of (four_in fs 12 (state_number v.state) fit refl) ∙ state_again v.state in
+    let state : area_state_of (number_at 4 12 bytes) ≡ v.state = ap area_state_of (four_in fs 12 (state_number v.state) fit refl) ∙ state_again v.state in
     λ i. record {
       format = four_in fs 8 v.format fit refl i;
       state = state i;

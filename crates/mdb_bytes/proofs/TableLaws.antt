@@ -1,9 +1,9 @@
 -- Rows of fields in their room.
 --     table_none, table_more      what a table is written as
 --     rows_again      rows that were spelled are read again
---     drop_fields, number_behind      what stands behind some fields
+--     drop_fields, number_behind      what stands after some fields
 --     fields_len-table      a table takes its room
---     length-section, section_again      the same of some fields and a table behind them
+--     length-section, section_again      the same of some fields and a table after them
 use Rattle.std.proofs.Common.{◌≡◌, refl, sym, ap, ◌∙◌, ℕ, suc, ◌+◌, ◌-◌, ◌*◌, ◌<◌, ◌≤◌, Bool, true, false, List, [], ◌∷◌, ◌++◌, length, take, drop, arith, append_assoc, zero-add, get_or, set}
 use Rattle.std.specs.Prelude.{replicate, ◌&&◌}
 use Rattle.std.specs.List.{flat_map, list_all}
@@ -30,7 +30,7 @@ one_row : {X : Type 0} (size : ℕ) (reads : List ℕ → X) (count i : ℕ) (re
 unfolding read_run
 one_row size reads count i rest lt = let k : count - i ≡ suc (count - (i + 1)) = omega arith in rw k refl
 
--- a row that was read is put behind the others
+-- a row that was read is put after the others
 pub row_kept : {X : Type 0} (size : ℕ) (reads : List ℕ → X) (count i : ℕ) (front pushed : List X) (x : X) (rest next : List ℕ) (total : List X) → i < count
     → next ≡ drop size rest → x ≡ reads rest → pushed ≡ front ++ x ∷ [] → front ++ read_run reads (λ v. size) (count - i) rest ≡ total
     → pushed ++ read_run reads (λ v. size) (count - (i + 1)) next ≡ total
@@ -67,11 +67,11 @@ pub fields_len-append : (xs ys : List Field) → fields_len (xs ++ ys) ≡ field
 fields_len-append [] ys = sym (zero-add (fields_len ys))
 fields_len-append (x ∷ xs) ys = omega (arith, fields_len-append xs ys)
 
--- what stands behind some fields
+-- what stands after some fields
 pub drop_fields : (xs ys : List Field) (n : ℕ) → fields_len xs ≡ n → drop n (spelled (xs ++ ys)) ≡ spelled ys
 drop_fields xs ys n len = ap (drop n) (spelled-append xs ys) ∙ drop_at (spelled xs) (spelled ys) n (length-spelled xs ∙ len)
 
--- a number behind some fields
+-- a number after some fields
 pub number_behind : (width at n : ℕ) (xs ys : List Field) → fields_len xs ≡ n → number_at width (n + at) (spelled (xs ++ ys)) ≡ number_at width at (spelled ys)
 unfolding number_at
 number_behind width at n xs ys len =
@@ -136,7 +136,7 @@ module _ {X : Type 0} (fields : X → List Field) (size : ℕ) where
           ∙ rows_again xs more (all_right (fields x) rest fit_parts) in
           λ i. first i ∷ others i
 
--- A section: some fields, and a table behind them
+-- A section: some fields, and a table after them
 
 module _ {X : Type 0} (fields : X → List Field) (size at room : ℕ) (front : List Field) (front_len : fields_len front ≡ at) (len : (x : X) → fields_len (fields x) ≡ size) where
   -- how many bytes it has
@@ -164,7 +164,7 @@ room-rows fields [] = refl
 room-rows fields (x ∷ xs) =
     ap fields_fit (flat_map-cons fields x xs) ∙ list_all-append field_fits (fields x) (flat_map fields xs) ∙ ap (λ b. fields_fit (fields x) && b) (room-rows fields xs)
 
--- the same of a section: some fields, and a table behind them
+-- the same of a section: some fields, and a table after them
 pub room-section : {X : Type 0} (fields : X → List Field) (size room : ℕ) (front : List Field) (xs : List X)
     → fields_fit (front ++ table_fields fields size room xs) ≡ (fields_fit front && list_all (λ x. fields_fit (fields x)) xs)
 room-section fields size room front xs =
@@ -196,7 +196,7 @@ spelled_both xs ys a b x y = (λ i. x i ++ y i) ∙ sym (spelled-append xs ys)
 pub word_again : (n : ℕ) (more : List Field) → list_all field_fits (word_format.fields n ++ more) ≡ true → word_format.reads (spelled (word_format.fields n ++ more)) ≡ n
 word_again n more fit = four_in (word_format.fields n ++ more) 0 n fit refl
 
--- a text and zeros behind it, of any length
+-- a text and zeros after it, of any length
 pub text_zeros : (text a b : List ℕ) (n : ℕ) → a ≡ text → b ≡ replicate n 0 → a ++ b ≡ spelled (Text text ∷ Zeros n ∷ [])
 unfolding spelled
 text_zeros text a b n x y = λ i. x i ++ (y ∙ sym (append-nil (replicate n 0))) i

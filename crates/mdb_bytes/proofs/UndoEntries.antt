@@ -10,7 +10,7 @@ use Rattle.std.proofs.lemmas.List.{append-nil, drop-drop, take_at, drop_at, take
 use Rattle.byteorder.specs.Endian.{big_bytes}
 use Rattle.mdb_model.specs.Script.{is_table, is_key}
 use Rattle.mdb_bytes.specs.declared.undo_page.UndoHead.{UndoHead}
-use Rattle.mdb_bytes.specs.Fields.{Field, Text, field_fits, fields_fit, spelled, number_at, number_end}
+use Rattle.mdb_bytes.specs.Fields.{Field, Text, field_fits, fields_fit, spelled, number_at, number_limit}
 use Rattle.mdb_bytes.specs.TablePages.{longest_value}
 use Rattle.mdb_bytes.specs.UndoPages.{UndoEntry, before_bytes, before_kind, undo_entry_fields, undo_entry_fits, undo_entry_reads, undo_entry_len, undo_entry_format}
 use Rattle.mdb_bytes.specs.EntryPages.{undo_layout, BeginsWith}
@@ -99,7 +99,7 @@ undo_kept v fits room =
         leb-true (length v.key) 256 (and_right (nat_le 1 (length v.key)) _ key),
         leb-true (length (before_bytes v)) longest_value (and_left (nat_le (length (before_bytes v)) longest_value) _ others),
       ),
-      (leb-true 1 v.number (and_right (nat_le (length (before_bytes v)) longest_value) _ others), ltb-true v.number number_end (and_left (nat_lt v.number number_end) _ behind_before_len)),
+      (leb-true 1 v.number (and_right (nat_le (length (before_bytes v)) longest_value) _ others), ltb-true v.number number_limit (and_left (nat_lt v.number number_limit) _ behind_before_len)),
     )
 
 -- what bytes say that begin with an entry
@@ -164,7 +164,7 @@ kind_low None = refl
 kind_low (Some x) = refl
 
 -- its fields have room
-undo_room : (v : UndoEntry) → v.table ≤ 500 → length v.key ≤ 256 → length (before_bytes v) ≤ longest_value → v.number < number_end → AreBytes v.key → AreBytes (before_bytes v)
+undo_room : (v : UndoEntry) → v.table ≤ 500 → length v.key ≤ 256 → length (before_bytes v) ≤ longest_value → v.number < number_limit → AreBytes v.key → AreBytes (before_bytes v)
     → IsTrue (fields_fit (undo_entry_fields v))
 undo_room v t k b n bytes_k bytes_b =
     and_both (nat_lt v.table (2 ^ 16)) _ (lt-ltb v.table (2 ^ 16) (omega arith)) (
@@ -172,7 +172,7 @@ undo_room v t k b n bytes_k bytes_b =
     and_both (nat_lt 0 256) _ refl (
     and_both (nat_lt (length v.key) (2 ^ 16)) _ (lt-ltb (length v.key) (2 ^ 16) (omega arith)) (
     and_both (nat_lt (length (before_bytes v)) (2 ^ 16)) _ (lt-ltb (length (before_bytes v)) (2 ^ 16) (omega arith)) (
-    and_both (nat_lt v.number number_end) _ (lt-ltb v.number number_end n) (
+    and_both (nat_lt v.number number_limit) _ (lt-ltb v.number number_limit n) (
     and_both (list_all (λ b. nat_lt b 256) v.key) _ (bytes_pass v.key bytes_k) (
     and_both (list_all (λ b. nat_lt b 256) (before_bytes v)) true (bytes_pass (before_bytes v) bytes_b) refl)))))))
 
@@ -211,7 +211,7 @@ undo_begins bytes head v rest cut =
     let k_high : length v.key ≤ 256 = omega arith in
     let b_high : length text ≤ longest_value = omega arith in
     let n_low : 1 ≤ v.number = omega arith in
-    let n_high : v.number < number_end = subst (λ n. n < number_end) (sym number_same) numbers.1 in
+    let n_high : v.number < number_limit = subst (λ n. n < number_limit) (sym number_same) numbers.1 in
     let fits : IsTrue (undo_entry_fits longest_value v) =
     and_both (is_table v.table && is_key v.key) (nat_le (length text) longest_value && nat_le 1 v.number)
     (and_both (is_table v.table) (is_key v.key)

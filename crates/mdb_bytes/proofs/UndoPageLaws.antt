@@ -6,7 +6,7 @@ use Rattle.std.proofs.lemmas.Bool.{leb-true, le-leb}
 use Rattle.mdb_bytes.specs.declared.page_sections.PageHead.{PageHead}
 use Rattle.mdb_bytes.specs.Fields.{Spells, fields_fit}
 use Rattle.mdb_bytes.specs.Parts.{page_room}
-use Rattle.mdb_bytes.specs.UndoPages.{UndoEntry, UndoPage, undo_entry_fits, undo_cost, undo_page_fields, undo_page_fits, undo_page_format}
+use Rattle.mdb_bytes.specs.UndoPages.{UndoEntry, UndoPage, undo_entry_fits, undo_entries_cost, undo_page_fields, undo_page_fits, undo_page_format}
 use Rattle.mdb_bytes.specs.EntryPages.{undo_layout, ascend, undo_head}
 use Rattle.mdb_bytes.proofs.Decoding.{and_left, and_right, and_both}
 use Rattle.mdb_bytes.proofs.EntryPageLaws.{IsEntryPage}
@@ -24,11 +24,11 @@ undo_page_of longest bytes v s =
     let fits = and_left (undo_page_fits longest v) _ s.0 in (
       (refl, refl, refl),
       record {
-        keeps = and_right (nat_le (undo_cost v.entries) page_room) _ fits;
+        keeps = and_right (nat_le (undo_entries_cost v.entries) page_room) _ fits;
         order = in_order longest v.entries;
         counted = refl;
         used = refl;
-        within = leb-true (undo_cost v.entries) page_room (and_left (nat_le (undo_cost v.entries) page_room) _ fits);
+        within = leb-true (undo_entries_cost v.entries) page_room (and_left (nat_le (undo_entries_cost v.entries) page_room) _ fits);
         fits = and_right (undo_page_fits longest v) _ s.0;
         whole = s.1;
       },
@@ -42,5 +42,5 @@ page_undo longest bytes head is entries p =
     λ i. record { kind = is.0 i; level = is.1 i; table = is.2 i; number = head.number; count = sym p.counted i; used = sym p.used i; next = head.next } in
     let q : IsEntryPage (undo_layout longest) (undo_head v) entries bytes = subst (λ h. IsEntryPage (undo_layout longest) h entries bytes) same p in
     let fits : IsTrue (undo_page_fits longest v) =
-    and_both (nat_le (undo_cost entries) page_room) (list_all (undo_entry_fits longest) entries) (le-leb (undo_cost entries) page_room q.within) q.keeps in
+    and_both (nat_le (undo_entries_cost entries) page_room) (list_all (undo_entry_fits longest) entries) (le-leb (undo_entries_cost entries) page_room q.within) q.keeps in
     (v, (and_both (undo_page_fits longest v) (fields_fit (undo_page_fields v)) fits q.fits, q.whole))

@@ -9,7 +9,7 @@ use Rattle.mdb_bytes.specs.declared.undo_page.UndoHead.{UndoHead}
 use Rattle.mdb_bytes.specs.Fields.{Field, Zeros, Spells, field_fits, spelled}
 use Rattle.mdb_bytes.specs.Parts.{page_room, fields_len}
 use Rattle.mdb_bytes.specs.LogicalPages.{count_on}
-use Rattle.mdb_bytes.specs.UndoPages.{UndoEntry, UndoPage, before_bytes, undo_entry_len, undo_entry_fields, undo_cost, undo_page_format}
+use Rattle.mdb_bytes.specs.UndoPages.{UndoEntry, UndoPage, before_bytes, undo_entry_len, undo_entry_fields, undo_entries_cost, undo_page_format}
 use Rattle.mdb_bytes.specs.EntryPages.{undo_layout, page_head_fields, undo_head}
 use Rattle.mdb_bytes.specs.EntryHeads.{undo_head_in, undo_head_for, HasWholeUndo}
 use Rattle.mdb_bytes.specs.PageEntries.{HasPart, IsUndoEntry, FindsEntry, undo_entry_at, HasUndo, SkipsUndo}
@@ -107,7 +107,7 @@ left_on all rest behind head le from whole is =
 
 module _ (longest : ℕ) (bytes : List ℕ) (v : UndoPage) (s : Spells (undo_page_format longest) v bytes) where
   abbrev tail : List Field
-  tail = Zeros (page_room - undo_cost v.entries) ∷ []
+  tail = Zeros (page_room - undo_entries_cost v.entries) ∷ []
 
   pub page_undo_entries : HasUndo (drop 64 bytes) v.entries tail
   page_undo_entries =
@@ -130,7 +130,7 @@ module _ (longest : ℕ) (bytes : List ℕ) (v : UndoPage) (s : Spells (undo_pag
         let few = skips v.entries tail (subst (λ t. HasUndo t v.entries tail) (sym is) page_undo_entries) in
         omega arith
 
-    -- the entry behind those that were skipped
+    -- the entry after those that were skipped
     pub undo_at : (body : List ℕ) (rest : Bor (List ℕ)) (i : ℕ) → body ≡ drop 64 bytes → i < count_on bytes → SkipsUndo body i (Some rest)
         → (x : UndoEntry) × (behind : List ℕ) × (slice_get v.entries i ≡ Some x) × FirstSays rest.now x behind
     undo_at body rest i is lt skips =

@@ -15,9 +15,9 @@ use Rattle.mdb_model.specs.declared.name.Name.{Name}
 use Rattle.mdb_model.specs.declared.name.Table.{Table}
 use Rattle.mdb_model.specs.Sessions.{change_bytes, group_bytes}
 use Rattle.mdb_bytes.specs.declared.group.GroupHead.{GroupHead}
-use Rattle.mdb_bytes.specs.Fields.{Byte, Two, Text, Spells, field_fits, fields_fit, spelled, number_end}
+use Rattle.mdb_bytes.specs.Fields.{Byte, Two, Text, Spells, field_fits, fields_fit, spelled, number_limit}
 use Rattle.mdb_bytes.specs.Groups.{Group, group_format, group_fits, group_fields, group_head, change_fields, longest_group}
-use Rattle.mdb_bytes.specs.GroupHeads.{head_fields, head_of}
+use Rattle.mdb_bytes.specs.GroupHeads.{group_head_fields, group_head_of}
 use Rattle.mdb_bytes.proofs.Decoding.{and_left, and_right, and_both}
 use Rattle.mdb_bytes.proofs.GroupLaw.{spelled-append, length-changes}
 use Rattle.mdb_bytes.proofs.NumberBytes.{AreBytes, bytes_pass}
@@ -30,7 +30,7 @@ all_at p [] i d lt all = absurd (omega arith)
 all_at p (x ∷ xs) zero d lt all = and_left (p x) _ all
 all_at p (x ∷ xs) (suc i) d lt all = all_at p xs i d (omega (arith, lt)) (and_right (p x) _ all)
 
--- bytes that were put one behind the other
+-- bytes that were put one after the other
 regrouped : (old a b c d key value : List ℕ) → (((((old ++ a) ++ b) ++ c) ++ d) ++ key) ++ value ≡ old ++ (a ++ (b ++ (c ++ (d ++ (key ++ value)))))
 regrouped old a b c d key value = simp append_assoc
 
@@ -93,11 +93,11 @@ fit_more cs i d lt was is =
 
 -- there is room for one more
 pub room_for : (cs : List Change) (i : ℕ) (d : Change) (h : GroupHead) (old : List ℕ) → i < length cs → group_bytes cs ≤ longest_group
-    → old ≡ spelled (head_fields h) ++ spelled (flat_map change_fields (take i cs)) → length old + change_bytes (get_or cs i d) ≤ longest_group
+    → old ≡ spelled (group_head_fields h) ++ spelled (flat_map change_fields (take i cs)) → length old + change_bytes (get_or cs i d) ≤ longest_group
 unfolding spelled
 room_for cs i d h old lt most was =
     let len : length old ≡ 33 + sum_by change_bytes (take i cs) =
-    ap length was ∙ length-append (spelled (head_fields h)) (spelled (flat_map change_fields (take i cs))) ∙ ap (λ n. 33 + n) (length-changes (take i cs)) in
+    ap length was ∙ length-append (spelled (group_head_fields h)) (spelled (flat_map change_fields (take i cs))) ∙ ap (λ n. 33 + n) (length-changes (take i cs)) in
     let more = sum_by_more_le change_bytes cs i d lt in
     omega arith
 
@@ -116,8 +116,8 @@ count_small (c ∷ cs) = let more = count_small cs in let long = change_is_long 
 
 -- a group that was written
 pub group_written : (name : Name) (number : ℕ) (cs : List Change) (into : List ℕ) → IsTrue (group_fits (record { name = name; number = number; changes = cs }))
-    → (name.birth < number_end) × (name.generation < number_end) × (number < number_end)
-    → into ≡ spelled (head_fields (head_of (record { name = name; number = number; changes = cs }))) ++ spelled (flat_map change_fields cs)
+    → (name.birth < number_limit) × (name.generation < number_limit) × (number < number_limit)
+    → into ≡ spelled (group_head_fields (group_head_of (record { name = name; number = number; changes = cs }))) ++ spelled (flat_map change_fields cs)
     → IsTrue (fields_fit (flat_map change_fields cs)) → Spells group_format (record { name = name; number = number; changes = cs }) into
 group_written name number cs into fits small is fit =
     let v : Group = record { name = name; number = number; changes = cs } in
@@ -125,5 +125,5 @@ group_written name number cs into fits small is fit =
     let count = count_small cs in
     let len : group_bytes cs < 2 ^ 32 = omega (arith, limits.2) in
     let few : length cs < 2 ^ 32 = omega (arith, limits.2) in
-    let room = list_all-append field_fits (group_head v) (flat_map change_fields cs) ∙ and_both (fields_fit (group_head v)) (fields_fit (flat_map change_fields cs)) (head_fits (head_of v) len few small) fit in
+    let room = list_all-append field_fits (group_head v) (flat_map change_fields cs) ∙ and_both (fields_fit (group_head v)) (fields_fit (flat_map change_fields cs)) (head_fits (group_head_of v) len few small) fit in
     (and_both (group_fits v) (fields_fit (group_fields v)) fits room, is ∙ sym (spelled-append (group_head v) (flat_map change_fields cs)))

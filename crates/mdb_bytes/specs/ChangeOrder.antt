@@ -1,7 +1,7 @@
 -- Changes in the order of their places.
 --     place_at      the place of a change that was read
 --     ascends      whether places ascend, from one on
---     IsRun      bytes are so many changes that ascend
+--     IsChangeRun      bytes are so many changes that ascend
 use Rattle.std.specs.Prelude.{◌≡◌, ℕ, List, [], ◌∷◌, Bool, true, ◌&&◌, length, Option, Some, None, option_map, IsTrue}
 use Rattle.std.specs.Ordering.{is_lt}
 use Rattle.mdb_model.specs.declared.change.Change.{Change}
@@ -15,17 +15,17 @@ place_at place = (place.table.0, place.key.now)
 abbrev pub last_place : Option LoggedPlace → Option Place
 last_place last = option_map place_at last
 
--- whether a place may stand behind the last one, if there is one
-abbrev pub follows : Option Place → Place → Bool
-follows None place = true
-follows (Some last) place = is_lt (place_cmp last place)
+-- whether a place may stand after the last one, if there is one
+abbrev pub place_follows : Option Place → Place → Bool
+place_follows None place = true
+place_follows (Some last) place = is_lt (place_cmp last place)
 
 abbrev pub ascends : Option Place → List Change → Bool
 ascends last [] = true
 ascends last (change ∷ changes) =
-    follows last (place_of change) && ascends (Some (place_of change)) changes
+    place_follows last (place_of change) && ascends (Some (place_of change)) changes
 
-unfoldable pub IsRun : Option Place → ℕ → List ℕ → Type 0
-IsRun last n bytes =
+unfoldable pub IsChangeRun : Option Place → ℕ → List ℕ → Type 0
+IsChangeRun last n bytes =
     (changes : List Change) × (length changes ≡ n) × IsTrue (ascends last changes)
     × HasChanges bytes changes

@@ -7,7 +7,7 @@ use Rattle.std.specs.Prelude.{◌≡◌, ℕ, ◌+◌, ◌<◌, ◌≤◌, ◌�
 use Rattle.mdb_bytes.specs.declared.row_leaf.RowHead.{RowHead}
 use Rattle.mdb_bytes.specs.declared.index_page.ChildHead.{ChildHead}
 use Rattle.mdb_bytes.specs.declared.undo_page.UndoHead.{UndoHead}
-use Rattle.mdb_bytes.specs.Fields.{number_at, number_end}
+use Rattle.mdb_bytes.specs.Fields.{number_at, number_limit}
 use Rattle.mdb_bytes.specs.TablePages.{Row, Child, longest_value}
 use Rattle.mdb_bytes.specs.UndoPages.{UndoEntry, before_bytes, before_kind}
 
@@ -71,7 +71,7 @@ KeepsUndoHead h =
     ((1 ≤ h.table) × (h.table ≤ 500)) × ((h.kind ≡ 1) ⊎ ((h.kind ≡ 0) × (h.before_len ≡ 0)))
     × (h.zero ≡ 0)
     × ((1 ≤ h.key_len) × (h.key_len ≤ 256) × (h.before_len ≤ longest_value))
-    × ((1 ≤ h.number) × (h.number < number_end))
+    × ((1 ≤ h.number) × (h.number < number_limit))
 
 -- the bytes have room for the front and for what it tells
 abbrev pub HasWholeUndo : List ℕ → UndoHead → Type 0

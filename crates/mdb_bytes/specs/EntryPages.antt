@@ -3,7 +3,7 @@
 --     row_layout, child_layout, undo_layout      that of each of the three
 --     ascend      whether entries stand in order
 --     BeginsWith, HasEntries      bytes begin with an entry; bytes are entries
---     IsRun      bytes are so many entries in order, and these are their slots
+--     IsEntryRun      bytes are so many entries in order, and these are their slots
 --     page_head_fields, page_head_in      the header as a value
 --     leaf_head, index_head, undo_head      that of each of the three
 --     HasSections, FindsSections      the parts of a page
@@ -19,7 +19,7 @@ use Rattle.mdb_bytes.specs.Fields.{Field, Two, Format, fields_fit, spelled, numb
 use Rattle.mdb_bytes.specs.Parts.{page_len, page_room}
 use Rattle.mdb_bytes.specs.LogicalPages.{header_fields, own_number, count_on, used_on}
 use Rattle.mdb_bytes.specs.TablePages.{Row, row_format, row_len, row_cost, RowLeaf, rows_cost, Child, child_format, child_len, child_cost, IndexPage, children_cost, slot_fields}
-use Rattle.mdb_bytes.specs.UndoPages.{UndoEntry, undo_entry_format, undo_entry_len, UndoPage, undo_cost}
+use Rattle.mdb_bytes.specs.UndoPages.{UndoEntry, undo_entry_format, undo_entry_len, UndoPage, undo_entries_cost}
 
 -- how the entries of a page are spelled, and where and in which order they stand
 pub record Layout (X : Type 0) : Type 0 where
@@ -72,20 +72,20 @@ undo_layout longest =
 
 -- Entries
 
--- whether a key may stand behind the last one, where there are keys
-abbrev pub follows : Option (List ℕ) → Option (List ℕ) → Bool
-follows None key = true
-follows (Some last) None = true
-follows (Some last) (Some key) = is_lt (slice_cmp nat_cmp last key)
+-- whether a key may stand after the last one, where there are keys
+abbrev pub key_follows : Option (List ℕ) → Option (List ℕ) → Bool
+key_follows None key = true
+key_follows (Some last) None = true
+key_follows (Some last) (Some key) = is_lt (slice_cmp nat_cmp last key)
 
 -- the bytes of a key that is lent
 abbrev pub key_in : Option (Bor (List ℕ)) → Option (List ℕ)
 key_in key = option_map (λ key. key.now) key
 
--- whether each entry may stand behind the one before, the first one behind this key
+-- whether each entry may stand after the one before, the first one after this key
 abbrev pub ascend : {X : Type 0} → Layout X → (last : Option (List ℕ)) → List X → Bool
 ascend layout last [] = true
-ascend layout last (x ∷ xs) = follows last (layout.key x) && ascend layout (layout.key x) xs
+ascend layout last (x ∷ xs) = key_follows last (layout.key x) && ascend layout (layout.key x) xs
 
 -- the bytes of an entry that keeps its limits, and then the rest
 abbrev pub BeginsWith : {X : Type 0} → Format X → X → (bytes rest : List ℕ) → Type 0
@@ -93,15 +93,15 @@ BeginsWith format x bytes rest =
     IsTrue (format.fits x && fields_fit (format.fields x))
     × (bytes ≡ spelled (format.fields x) ++ rest)
 
--- the bytes of entries that keep their limits, one behind the other
+-- the bytes of entries that keep their limits, one after the other
 abbrev pub HasEntries : {X : Type 0} → Format X → List ℕ → List X → Type 0
 HasEntries format bytes xs =
     IsTrue (list_all format.fits xs && fields_fit (flat_map format.fields xs))
     × (bytes ≡ spelled (flat_map format.fields xs))
 
--- the bytes are so many entries, which stand behind this key and ascend; the first is at this place
+-- the bytes are so many entries, which stand after this key and ascend; the first is at this place
 -- of its page
-pub record IsRun {X : Type 0} (layout : Layout X) (last : Option (List ℕ)) (count at : ℕ)
+pub record IsEntryRun {X : Type 0} (layout : Layout X) (last : Option (List ℕ)) (count at : ℕ)
     (bytes slots : List ℕ) : Type 0 where
   pub entries : List X
   pub all : length entries ≡ count
@@ -163,7 +163,7 @@ undo_head v =
       number = v.number;
       count = length v.entries;
       used =
-          undo_cost v.entries;
+          undo_entries_cost v.entries;
       next = v.next;
     }
 

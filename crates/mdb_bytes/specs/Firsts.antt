@@ -1,5 +1,5 @@
 -- What the creation of a database writes: the catalogue on block 2, the open list on block 3, the
--- converter's leaves from block 4 on, its root behind them, the log info, and the restart record.
+-- converter's leaves from block 4 on, its root after them, the log info, and the restart record.
 --     leaf_count, first_root_block      how many leaves an area has, and where the root stands
 --     first_restart, first_log_info      the records
 --     first_catalogue, first_open_list, first_leaf, first_root      the pages
@@ -23,7 +23,7 @@ use Rattle.mdb_bytes.specs.LogicalPages.{catalogue_fields, open_list_fields}
 abbrev pub leaf_count : (blocks : ℕ) → ℕ
 leaf_count blocks = (blocks + 599) / 600
 
--- the root stands behind the leaves
+-- the root stands after the leaves
 abbrev pub first_root_block : (blocks : ℕ) → ℕ
 first_root_block blocks = 4 + leaf_count blocks
 

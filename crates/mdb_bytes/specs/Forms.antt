@@ -1,5 +1,5 @@
 -- Which page maps are well formed.
---     IsTree, IsRun      the pages of a table, as a tree or as a list of leaves
+--     IsTree, IsLeafRun      the pages of a table, as a tree or as a list of leaves
 --     IsTable      the pages of a table, as the catalogue has them
 --     IsUndoFile      the undo pages of a transaction
 --     IsWellFormed      all pages are in their forms and where they are named
@@ -18,7 +18,7 @@ use Rattle.mdb_bytes.specs.declared.logical_pages.OpenList.{OpenList}
 use Rattle.mdb_bytes.specs.Fields.{all_differ}
 use Rattle.mdb_bytes.specs.Parts.{page_room}
 use Rattle.mdb_bytes.specs.TablePages.{RowLeaf, Child, IndexPage, rows_cost, children_cost}
-use Rattle.mdb_bytes.specs.UndoPages.{UndoPage, undo_cost, undo_entry_len}
+use Rattle.mdb_bytes.specs.UndoPages.{UndoPage, undo_entries_cost, undo_entry_len}
 use Rattle.mdb_bytes.specs.PageReadings.{row_leaf_of, index_of, undo_page_of, catalogue_of, open_list_of, page_as, standing_rows, rows_before, undo_page_count}
 use Rattle.mdb_bytes.specs.Stages.{tables_are_trees}
 
@@ -101,9 +101,10 @@ module _ (pages : PageMap) where
       (page_as index_of pages number)) []
 
   -- the pages of such a tree
-  abbrev pub pages_below : (level number : ℕ) → List ℕ
-  pages_below zero number = number ∷ []
-  pages_below (suc level) number = number ∷ flat_map (pages_below level) (children_of number)
+  abbrev pub tree_pages_below : (level number : ℕ) → List ℕ
+  tree_pages_below zero number = number ∷ []
+  tree_pages_below (suc level) number =
+      number ∷ flat_map (tree_pages_below level) (children_of number)
 
   -- a whole tree: at most eight levels, and a top that is an index page has two children or more
   pub record IsWholeTree (table number : ℕ) (numbers : List ℕ) : Type 0 where
@@ -111,7 +112,7 @@ module _ (pages : PageMap) where
     pub at_most : level ≤ 7
     pub tree : IsTree table level number [] None
     pub top : 0 < level → 2 ≤ length (children_of number)
-    pub all : numbers ≡ pages_below level number
+    pub all : numbers ≡ tree_pages_below level number
 
   -- Lists of leaves, before there are trees
 
@@ -142,7 +143,7 @@ module _ (pages : PageMap) where
       (page_as row_leaf_of pages number)) []
 
   -- a list of leaves from the first one on, with all keys in order
-  pub record IsRun (table first : ℕ) (numbers : List ℕ) : Type 0 where
+  pub record IsLeafRun (table first : ℕ) (numbers : List ℕ) : Type 0 where
     pub begins : first_or_none numbers ≡ first
     pub linked : AreLinked table numbers
     pub in_order : Neighbours (λ a b. slice_cmp nat_cmp a b ≡ Less) (flat_map keys_on numbers)
@@ -153,7 +154,7 @@ module _ (pages : PageMap) where
   -- the pages of a table that has rows
   abbrev pub IsBody : (table first : ℕ) (numbers : List ℕ) → Type 0
   IsBody table first numbers =
-      MatchBool tables_are_trees (IsWholeTree table first numbers) (IsRun table first numbers)
+      MatchBool tables_are_trees (IsWholeTree table first numbers) (IsLeafRun table first numbers)
 
   -- a table on these pages, as the catalogue has it
   pub record IsTable (table : ℕ) (entry : CatalogueEntry) (numbers : List ℕ) : Type 0 where
@@ -174,7 +175,7 @@ module _ (pages : PageMap) where
   -- a page was left only where the first entry of the page after it did not fit
   abbrev pub IsFullBefore : UndoPage → UndoPage → Type 0
   IsFullBefore after before =
-      IfSome (slice_get after.entries 0) (λ entry. page_room < undo_cost before.entries
+      IfSome (slice_get after.entries 0) (λ entry. page_room < undo_entries_cost before.entries
       + undo_entry_len entry)
 
   -- each page has entries and was filled before the next one, and from the first one on entries are

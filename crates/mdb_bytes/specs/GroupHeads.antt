@@ -1,9 +1,9 @@
 -- The head of a group: its first 33 bytes.
---     head_fields, head_of      its fields; the head of a group
+--     group_head_fields, group_head_of      its fields; the head of a group
 --     BeginsWithHead, FindsHead      bytes begin with a head; the head that they begin with, if
 --         there is one
 --     head_read      what stands at the places of a head
---     IsDue      bytes are a group of this name and number
+--     IsGroup      bytes are a group of this name and number
 use Rattle.std.specs.Prelude.{◌≡◌, ℕ, ◌≤◌, List, [], ◌∷◌, ◌++◌, length, drop, Option, Some, None, IsTrue}
 use Rattle.mdb_model.specs.declared.change.Change.{Change}
 use Rattle.mdb_model.specs.declared.name.Name.{Name}
@@ -12,13 +12,13 @@ use Rattle.mdb_bytes.specs.declared.group.GroupHead.{GroupHead}
 use Rattle.mdb_bytes.specs.Fields.{Field, Byte, Four, Eight, Spells, fields_fit, spelled, number_at}
 use Rattle.mdb_bytes.specs.Groups.{Group, group_format, open_gate, longest_group}
 
-abbrev pub head_fields : GroupHead → List Field
-head_fields head =
+abbrev pub group_head_fields : GroupHead → List Field
+group_head_fields head =
     Byte open_gate ∷ Four head.length ∷ Eight head.name.birth ∷ Eight head.name.generation
     ∷ Eight head.number ∷ Four head.changes ∷ []
 
-abbrev pub head_of : Group → GroupHead
-head_of v =
+abbrev pub group_head_of : Group → GroupHead
+group_head_of v =
     record {
       length = group_bytes v.changes;
       name = v.name;
@@ -30,7 +30,8 @@ head_of v =
 -- the bytes of a head, and then the rest
 abbrev pub BeginsWithHead : GroupHead → (bytes rest : List ℕ) → Type 0
 BeginsWithHead head bytes rest =
-    IsTrue (fields_fit (head_fields head)) × (bytes ≡ spelled (head_fields head) ++ rest)
+    IsTrue (fields_fit (group_head_fields head))
+    × (bytes ≡ spelled (group_head_fields head) ++ rest)
 
 -- what stands at its places
 abbrev pub head_read : List ℕ → GroupHead
@@ -53,7 +54,7 @@ IsHeadFor head name number len =
     × (head.length ≤ longest_group)
 
 -- the group of some changes
-abbrev pub IsDue : Name → ℕ → List ℕ → Type 0
-IsDue name number bytes =
+abbrev pub IsGroup : Name → ℕ → List ℕ → Type 0
+IsGroup name number bytes =
     (changes : List Change) × Spells group_format
     (record { name = name; number = number; changes = changes }) bytes

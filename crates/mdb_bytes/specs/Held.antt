@@ -3,11 +3,11 @@
 --     Before, UndoFiles      what stood at a place before a change; one list of these for each
 --         session
 --     LogLeft      the commits of a log that are still to be read
---     IsRow      whether a row is found, and its value
---     next_row, IsNextRow      the first row of a table behind a key
+--     IsFoundRow      whether a row is found, and its value
+--     next_row, IsNextRow      the first row of a table after a key
 --     setting_back, before_fits, before_of      a before image as the change that sets it back; the
 --         one of an entry
---     noted, without_file, IsLastTaken      what is done to the undo file of a session
+--     with_before_image, without_file, IsLastTaken      what is done to the undo file of a session
 --     IsNextGroup      the first group of a log
 --     HasPageCause      when a call on pages may fail
 --     no_room, HasRoomCause      when a call may fail that makes room
@@ -42,7 +42,7 @@ pub record Before : Type 0 where
 abbrev pub UndoFiles : Type 0
 UndoFiles = FinMap nat_cmp (List Before)
 
--- commits that are still to be read, of this database, the first with the number behind this one
+-- commits that are still to be read, of this database, the first with the number after this one
 pub record LogLeft : Type 0 where
   pub name : Name
   pub after : ℕ
@@ -57,9 +57,9 @@ pub record Holding : Type 0 where
 -- Rows
 
 -- a row is found, with this value, or there is none
-abbrev pub IsRow : (found : Bool) → Option (List ℕ) → (value : List ℕ) → Type 0
-IsRow true row value = row ≡ Some value
-IsRow false row value = row ≡ None
+abbrev pub IsFoundRow : (found : Bool) → Option (List ℕ) → (value : List ℕ) → Type 0
+IsFoundRow true row value = row ≡ Some value
+IsFoundRow false row value = row ≡ None
 
 -- the first key comes before the second
 abbrev pub is_before : List ℕ → List ℕ → Bool
@@ -107,8 +107,8 @@ abbrev pub file_of : UndoFiles → ℕ → List Before
 file_of files session = unwrap_or (get files session) []
 
 -- with one more before image of the session
-abbrev pub noted : UndoFiles → ℕ → Before → UndoFiles
-noted files session before = insert files session (file_of files session ++ before ∷ [])
+abbrev pub with_before_image : UndoFiles → ℕ → Before → UndoFiles
+with_before_image files session before = insert files session (file_of files session ++ before ∷ [])
 
 -- with no before image of the session
 abbrev pub without_file : UndoFiles → ℕ → UndoFiles
@@ -148,11 +148,11 @@ pub record HasPageCause {T : Type 0} (known : Type 0) (before now : ℕ) (result
   pub failed : IfErr result (λ fault. fault ≡ Failed → Rose before now)
   pub whole : known → IfErr result (λ fault. fault ≡ Failed)
 
--- the first data volume, of which no page is at fault, is called damaged: its room is wanting
+-- the first data volume, of which no page is at fault, is called damaged: it has no room
 abbrev pub no_room : Damage
 no_room = record { device = Data 1; page = 0; rule = Room }
 
--- As with other calls on pages, but that room may be wanting: only where a savepoint leaves fewer
+-- As with other calls on pages, but that there may be no room: only where a savepoint leaves fewer
 -- than 64 spare pages.
 pub record HasRoomCause {T : Type 0} (known : Type 0) (left : ℕ) (before now : ℕ)
     (result : Result T PageFault) : Type 0 where

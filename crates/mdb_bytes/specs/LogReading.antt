@@ -18,8 +18,8 @@ bytes_from ring position n = map ring (range_with_len position n)
 unfoldable pub group_of : List ℕ → Option Group
 group_of bytes = decoded group_format bytes
 
--- From a position on stand the groups of these commits, one behind the other with open gates, in
--- this database and with the numbers that follow on a number. Behind the last one the gate is
+-- From a position on stand the groups of these commits, one after the other with open gates, in
+-- this database and with the numbers that follow on a number. After the last one the gate is
 -- closed.
 abbrev pub IsLog : (ℕ → ℕ) → Name → (position after : ℕ) → List Commit → Type 0
 IsLog ring name position after [] = ring position ≢ open_gate
@@ -28,7 +28,7 @@ IsLog ring name position after (commit ∷ commits) =
     (bytes_from ring position (group_bytes commit.changes))
     × IsLog ring name (position + group_bytes commit.changes) (after + 1) commits
 
--- the group at a position, as long as it says behind its gate, where it is the one that is due: in
+-- the group at a position, as long as it says after its gate, where it is the one that is due: in
 -- this database, with the number after this one
 abbrev pub group_due : (ℕ → ℕ) → Name → (position after : ℕ) → Option Group
 group_due ring name position after =
@@ -37,7 +37,7 @@ group_due ring name position after =
     (group_of (bytes_from ring position (number_at 4 1 (bytes_from ring position 5))))
 
 -- The same, computed: the commits of at most so many groups, or none where a group that is due does
--- not stand behind an open gate or there are more groups.
+-- not stand after an open gate or there are more groups.
 abbrev pub log_from : (ℕ → ℕ) → Name → (most position after : ℕ) → Option (List Commit)
 log_from ring name zero position after = None
 log_from ring name (suc most) position after =

@@ -22,8 +22,8 @@ kind_number (OfPages Incremental) = 2
 kind_number OfLog = 3
 
 -- the kind of a number
-abbrev pub kind_of : ℕ → BackupKind
-kind_of number =
+abbrev pub backup_kind_of : ℕ → BackupKind
+backup_kind_of number =
     if number == 1 then OfPages Complete else (if number == 2 then OfPages Incremental else OfLog)
 
 -- the fields of the header of a medium, in order
@@ -54,7 +54,7 @@ medium_header_fits v = v.format == 1 && nat_le v.pages most_pages && header_kind
 abbrev pub medium_header_reads : List ℕ → MediumHeader
 medium_header_reads bytes = record {
   format = number_at 4 8 bytes;
-  kind = kind_of (number_at 4 12 bytes);
+  kind = backup_kind_of (number_at 4 12 bytes);
   name = record { birth = number_at 8 16 bytes; generation = number_at 8 24 bytes };
   savepoint = number_at 8 32 bytes;
   base = number_at 8 40 bytes;

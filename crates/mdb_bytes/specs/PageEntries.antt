@@ -3,7 +3,7 @@
 --     IsRowEntry, IsChildEntry, IsUndoEntry      places are those of an entry
 --     undo_entry_at      the places of an undo entry that begins at a place, by its front
 --     FindsEntry      the entry with a number, counted from 0, or none where there is none
---     HasUndo, SkipsUndo      bytes are undo entries and more fields; the bytes behind the first
+--     HasUndo, SkipsUndo      bytes are undo entries and more fields; the bytes after the first
 --         entries
 use Rattle.std.specs.Prelude.{◌≡◌, ℕ, ◌+◌, ◌-◌, ◌<◌, ◌≤◌, List, ◌++◌, length, take, drop, slice_get, true, Option, Some, None}
 use Rattle.std.specs.List.{flat_map}
@@ -49,12 +49,12 @@ abbrev pub FindsEntry : {E X : Type 0} → (E → X → Type 0) → List X → �
 FindsEntry is xs i None = length xs ≤ i
 FindsEntry {X = X} is xs i (Some entry) = (x : X) × (slice_get xs i ≡ Some x) × is entry x
 
--- the bytes of undo entries of any lengths, and of more fields behind them
+-- the bytes of undo entries of any lengths, and of more fields after them
 pub record HasUndo (bytes : List ℕ) (entries : List UndoEntry) (more : List Field) : Type 0 where
   pub fits : fields_fit (flat_map undo_entry_fields entries ++ more) ≡ true
   pub whole : bytes ≡ spelled (flat_map undo_entry_fields entries ++ more)
 
--- what stands behind n undo entries, or none where there are fewer
+-- what stands after n undo entries, or none where there are fewer
 abbrev pub SkipsUndo : List ℕ → ℕ → Option (Bor (List ℕ)) → Type 0
 SkipsUndo bytes n None =
     (entries : List UndoEntry) (more : List Field) → HasUndo bytes entries more → length entries < n

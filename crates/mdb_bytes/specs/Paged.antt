@@ -2,8 +2,8 @@
 --     PageBytes      the bytes of each live page
 --     is_live, AsLive      whether a page lives; the same pages live
 --     PaidPages, is_paid, price, StayPaid      the pages to which a write needs no new block
---     IsKept      what a call leaves that writes no page
---     IsWritten      what a page leaves that was lent to be written
+--     KeepsAllPages      what a call leaves that writes no page
+--     WritesPage      what a page leaves that was lent to be written
 --     IsNew      what a new page leaves
 --     AreEdited      what an edit of two pages leaves
 --     MayEdit      an edit is fit for the bytes of two pages
@@ -39,7 +39,7 @@ StayPaid old new = (page : ℕ) → is_paid old page ≡ true → is_paid new pa
 
 -- The pages are as they were where their bytes were known, the same pages live, and paid ones stay
 -- paid. At most so many spare pages are taken.
-pub record IsKept (known known2 : Type 0) (most : ℕ) (pages pages2 : PageBytes)
+pub record KeepsAllPages (known known2 : Type 0) (most : ℕ) (pages pages2 : PageBytes)
     (paid paid2 : PaidPages) (spare spare2 : ℕ) : Type 0 where
   pub same : known → known2 × (pages2 ≡ pages)
   pub living : AsLive pages2 pages
@@ -48,7 +48,7 @@ pub record IsKept (known known2 : Type 0) (most : ℕ) (pages pages2 : PageBytes
 
 -- One page has these bytes where the bytes were known, and every other is as it was. The same pages
 -- live, paid ones stay paid, and this one is. A spare page is taken at most where it was not paid.
-pub record IsWritten (page : ℕ) (bytes : List ℕ) (known known2 : Type 0) (pages pages2 : PageBytes)
+pub record WritesPage (page : ℕ) (bytes : List ℕ) (known known2 : Type 0) (pages pages2 : PageBytes)
     (paid paid2 : PaidPages) (spare spare2 : ℕ) : Type 0 where
   pub written : known → known2 × (pages2 ≡ insert pages page bytes)
   pub living : AsLive pages2 pages

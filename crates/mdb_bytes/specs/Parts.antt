@@ -1,7 +1,7 @@
 -- The parts that a record is written by.
 --     field_of      the field that a part stands for
 --     field_len, fields_len      how many bytes a field and a list of fields have
---     Keeps      a value keeps the limits of its format
+--     KeepsLimits      a value keeps the limits of its format
 --     HasLength      each value of a format has so many bytes
 --     page_len, page_room      the bytes of a page
 --     table_fields      rows of fields in their room
@@ -38,20 +38,20 @@ fields_len [] = 0
 fields_len (field ∷ fields) = field_len field + fields_len fields
 
 -- its numbers are within their limits and have room in their fields
-abbrev pub Keeps : {X : Type 0} → Format X → X → Type 0
-Keeps format v = IsTrue (format.fits v && fields_fit (format.fields v))
+abbrev pub KeepsLimits : {X : Type 0} → Format X → X → Type 0
+KeepsLimits format v = IsTrue (format.fits v && fields_fit (format.fields v))
 
 -- each value that keeps its limits has so many bytes
 abbrev pub HasLength : {X : Type 0} → Format X → ℕ → Type 0
-HasLength {X = X} format n = (v : X) → Keeps format v → length (spelled (format.fields v)) ≡ n
+HasLength {X = X} format n = (v : X) → KeepsLimits format v → length (spelled (format.fields v)) ≡ n
 
 -- Tables
 
--- the bytes of a page, and those behind its first 64
+-- the bytes of a page, and those after its first 64
 abbrev pub page_len : ℕ
 page_len = 8192
 
--- the bytes of a page behind its first 64
+-- the bytes of a page after its first 64
 abbrev pub page_room : ℕ
 page_room = 8128
 

@@ -79,8 +79,8 @@ state_number Normal = 0
 state_number RestoreOpen = 1
 
 -- the state of a number
-abbrev pub state_of : ℕ → AreaState
-state_of number = if number == 0 then Normal else RestoreOpen
+abbrev pub area_state_of : ℕ → AreaState
+area_state_of number = if number == 0 then Normal else RestoreOpen
 
 -- the first 72 bytes, up to the number of volumes
 abbrev pub restart_front : RestartRecord → List Field
@@ -123,7 +123,7 @@ restart_fits v = restart_numbers_fit v && restart_tables_fit v
 abbrev pub restart_reads : List ℕ → RestartRecord
 restart_reads bytes = record {
   format = number_at 4 8 bytes;
-  state = state_of (number_at 4 12 bytes);
+  state = area_state_of (number_at 4 12 bytes);
   slot = number_at 8 16 bytes;
   name = record { birth = number_at 8 24 bytes; generation = number_at 8 32 bytes };
   savepoint = number_at 8 40 bytes;

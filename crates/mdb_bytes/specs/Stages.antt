@@ -1,17 +1,12 @@
 -- How far the program is built, as far as it bears on what images mean. Until a part is built an
 -- image stands for a world only where that part is not needed. Each stage changes this file alone.
---     first_records, no_backups, one_generation, no_snapshots, no_undo, no_changed_pages      what
---         is not there yet
---     tables_are_trees, asks_for_room      what is there
+--     no_backups, one_generation, no_snapshots, no_undo, no_changed_pages      what is not there yet
+--     tables_are_trees      what is there
 use Rattle.std.specs.Prelude.{Bool, true, false, not}
-use Rattle.mdb_model.specs.Stages.{rows_in_memory, changes_in_memory, has_media, has_tasks}
+use Rattle.mdb_model.specs.Stages.{changes_in_memory, has_media, has_tasks}
 
--- the restart record and the log info are still those of the creation; false in the whole program,
--- as are the next five
-abbrev pub first_records : Bool
-first_records = true
-
--- there are no backups: no medium, nothing saved, no base, nothing pending
+-- there are no backups: no medium, nothing saved, no base, nothing pending; false in the whole
+-- program, as are the next four
 abbrev pub no_backups : Bool
 no_backups = not has_media
 
@@ -34,7 +29,3 @@ no_changed_pages = not has_tasks
 -- tables are trees, as in the whole program; before that they are lists of leaves
 abbrev pub tables_are_trees : Bool
 tables_are_trees = false
-
--- room is asked for, as it is once rows stand on pages
-abbrev pub asks_for_room : Bool
-asks_for_room = not rows_in_memory

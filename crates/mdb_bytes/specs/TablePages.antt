@@ -1,8 +1,8 @@
 -- The pages of tables: row leaves, and index pages above them.
---     slot_fields, entry_area      the slots of entries; all that stands behind the header
+--     slot_fields, entry_area      the slots of entries; all that stands after the header
 --     RowLeaf, row_leaf_format      rows by ascending key
 --     IndexPage, index_format      children by ascending separator
--- Behind the header the entries stand without a gap. At the end of the page stand the slots: the
+-- After the header the entries stand without a gap. At the end of the page stand the slots: the
 -- place of each entry, that of the first one last. Between the two are zeros.
 use Rattle.std.specs.Prelude.{ℕ, ◌+◌, ◌-◌, List, [], ◌∷◌, ◌++◌, Bool, ◌&&◌, nat_le, length, map, drop, take, sum_by}
 use Rattle.std.specs.List.{flat_map, list_all}

@@ -1,5 +1,5 @@
 -- Undo pages: the rows as they were before open transactions changed them.
---     UndoPage, undo_page_format      the entries of a page in order, without a gap behind its
+--     UndoPage, undo_page_format      the entries of a page in order, without a gap after its
 --         header, and then zeros
 use Rattle.std.specs.Prelude.{ℕ, ◌+◌, ◌-◌, List, [], ◌∷◌, ◌++◌, Bool, ◌&&◌, ◌==◌, nat_le, Option, Some, None, is_some, unwrap_or, if◌then◌else◌, length, drop, take, sum_by}
 use Rattle.std.specs.List.{flat_map, list_all}
@@ -35,8 +35,8 @@ abbrev pub undo_entry_len : UndoEntry → ℕ
 undo_entry_len v = 16 + length v.key + length (before_bytes v)
 
 -- how many bytes entries have, which are the used bytes of their page
-abbrev pub undo_cost : List UndoEntry → ℕ
-undo_cost entries = sum_by undo_entry_len entries
+abbrev pub undo_entries_cost : List UndoEntry → ℕ
+undo_entries_cost entries = sum_by undo_entry_len entries
 
 -- the fields of an entry, in order
 abbrev pub undo_entry_fields : UndoEntry → List Field
@@ -72,13 +72,14 @@ undo_entry_format longest =
 -- the fields of an undo page, in order
 abbrev pub undo_page_fields : UndoPage → List Field
 undo_page_fields v =
-    header_fields 3 0 0 v.number (length v.entries) (undo_cost v.entries) v.next
-    ++ (flat_map undo_entry_fields v.entries ++ Zeros (page_room - undo_cost v.entries) ∷ [])
+    header_fields 3 0 0 v.number (length v.entries) (undo_entries_cost v.entries) v.next
+    ++ (flat_map undo_entry_fields v.entries
+    ++ Zeros (page_room - undo_entries_cost v.entries) ∷ [])
 
 -- with values of at most so many bytes
 abbrev pub undo_page_fits : (longest : ℕ) → UndoPage → Bool
 undo_page_fits longest v =
-    nat_le (undo_cost v.entries) page_room && list_all (undo_entry_fits longest) v.entries
+    nat_le (undo_entries_cost v.entries) page_room && list_all (undo_entry_fits longest) v.entries
 
 -- what stands at the places of an undo page
 abbrev pub undo_page_reads : List ℕ → UndoPage

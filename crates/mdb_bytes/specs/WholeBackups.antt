@@ -1,7 +1,7 @@
 -- The bytes of a whole backup, from the medium's first page on.
 --     live_page, live_pages      the pages of a live set
 --     header_for      the header of a backup
---     backup_bytes      the header, the gate, and the pages or groups behind them
+--     backup_bytes      the header, the gate, and the pages or groups after them
 use Rattle.std.specs.Prelude.{ℕ, ◌+◌, ◌-◌, ◌*◌, ◌^◌, List, [], ◌∷◌, ◌++◌, if◌then◌else◌, map, sum_by, replicate}
 use Rattle.std.specs.List.{concat, range_with_len}
 use Rattle.std.specs.Ordering.{nat_cmp}
@@ -49,7 +49,7 @@ live_set_spelled live blocks =
     concat (map (λ index. spelled (live_set_fields (live_page live blocks index)))
     (range_with_len 0 (live_pages blocks)))
 
--- What stands behind the header
+-- What stands after the header
 
 -- the groups of commits in order, the first with this number
 abbrev pub groups_spelled : Name → ℕ → List Commit → List ℕ
@@ -66,7 +66,7 @@ group_pages commits = ceil_div (log_bytes commits) page_len
 abbrev pub pages_spelled : PageMap → List ℕ
 pages_spelled pages = concat (map (λ page. page.bytes) (values pages))
 
--- The pages behind the header: all pages; the live set and the changed pages; the groups, the last
+-- The pages after the header: all pages; the live set and the changed pages; the groups, the last
 -- page filled with zeros
 abbrev pub content_bytes : Backup → List ℕ
 content_bytes (CompletePages name savepoint commit pages blocks) = pages_spelled pages
@@ -120,7 +120,7 @@ header_for end (LogGroups name from to commits blocks) = record {
   end_position = end;
 }
 
--- the header with an open gate, and what stands behind it
+-- the header with an open gate, and what stands after it
 abbrev pub backup_bytes : (end : ℕ) → Backup → List ℕ
 backup_bytes end backup =
     spelled (medium_header_fields (header_for end backup) ++ Byte open_gate ∷ [])

@@ -4,7 +4,7 @@ ghost use Rattle.mdb_model.specs.declared.change.Change.{Change};
 ghost use Rattle.mdb_model.specs.Tables.{place_of};
 ghost use Rattle.mdb_bytes.specs.Fields.{Spells};
 ghost use Rattle.mdb_bytes.specs.Groups.{Group, group_format};
-ghost use Rattle.mdb_bytes.specs.LoggedChanges.{change_of, IsWithinLimits, BeginsWith, HasChanges, Gives};
+ghost use Rattle.mdb_bytes.specs.LoggedChanges.{change_of, IsWithinLimits, BeginsWithChange, HasChanges, GivesChange};
 ghost use Rattle.mdb_bytes.specs.ChangeHeads.{head_in, KeepsHead};
 ghost use Rattle.mdb_bytes.specs.ChangeOrder.{place_at};
 
@@ -70,11 +70,11 @@ fn is_kept(head: ChangeHead) -> bool
         && (head.kind == 1 || head.kind == 2 && head.value_len == 0)
 }
 
-/// The change at the front, and what stands behind it; none where the bytes begin with no change.
+/// The change at the front, and what stands after it; none where the bytes begin with no change.
 pub fn first_change(bytes: &[u8]) -> Option<(LoggedChange<'_>, &[u8])>
     ensures first { MatchOption result
-        ((change : Change) → (rest : List ℕ) → BeginsWith change bytes.now rest → ⊥)
-        (λ r. BeginsWith (change_of r.0) bytes.now r.1.now) }
+        ((change : Change) → (rest : List ℕ) → BeginsWithChange change bytes.now rest → ⊥)
+        (λ r. BeginsWithChange (change_of r.0) bytes.now r.1.now) }
     ensures limits { IfSome result (λ r. IsWithinLimits r.0) }
 {
     if bytes.len() < 7 {
@@ -98,7 +98,7 @@ pub fn first_change(bytes: &[u8]) -> Option<(LoggedChange<'_>, &[u8])>
     Some((LoggedChange::Del(Table(head.table), key), rest))
 }
 
-/// Reads changes one behind the other. Its value is the bytes that it has left.
+/// Reads changes one after the other. Its value is the bytes that it has left.
 #[derive(Drop)]
 pub struct ChangeReader<'a> {
     left: &'a [u8],
@@ -114,7 +114,8 @@ impl<'a> Model for ChangeReader<'a> {
 
 /// The changes of a group.
 pub fn changes_of(bytes: &[u8]) -> ChangeReader<'_>
-    ensures { (v : Group) → Spells group_format v bytes.now → HasChanges result v.changes }
+    ensures has { (v : Group) → Spells group_format v bytes.now → HasChanges result v.changes }
+    ensures within { length result ≤ length bytes.now }
 {
     if bytes.len() < 33 {
         return ChangeReader { left: bytes };
@@ -128,11 +129,11 @@ impl<'a> ChangeReader<'a> {
     /// The next change; none at the end, and where what is left begins with no change.
     pub fn next(&mut self) -> Option<LoggedChange<'a>>
         ensures gives { (changes : List Change) → HasChanges self.old changes
-            → Gives result self.new changes }
+            → GivesChange result self.new changes }
         ensures first { MatchOption result
-            (((change : Change) → (rest : List ℕ) → BeginsWith change self.old rest → ⊥)
+            (((change : Change) → (rest : List ℕ) → BeginsWithChange change self.old rest → ⊥)
             × (self.new ≡ self.old))
-            (λ logged. BeginsWith (change_of logged) self.old self.new) }
+            (λ logged. BeginsWithChange (change_of logged) self.old self.new) }
         ensures limits { IfSome result IsWithinLimits }
         ensures shorter { IfSome result (λ _. length self.new < length self.old) }
     {

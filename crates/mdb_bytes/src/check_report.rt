@@ -1,7 +1,7 @@
 //! What a check of a database reports, as bytes.
 ghost use Rattle.std.specs.Prelude.{◌≡◌, map, length};
 ghost use Rattle.mdb_bytes.specs.Fields.{Spells, Decodes};
-ghost use Rattle.mdb_bytes.specs.Parts.{field_of, Keeps};
+ghost use Rattle.mdb_bytes.specs.Parts.{field_of, KeepsLimits};
 ghost use Rattle.mdb_bytes.specs.MediumPages.{device_kind, device_number, device_of, rule_number, rule_of, check_report_fields, check_report_format};
 
 use crate::numbers::{byte_at, u16_at, u32_at};
@@ -131,7 +131,7 @@ impl Record for Damage {
 /// The 16 bytes of a report.
 pub fn encode_check_report(value: &Damage, into: &mut [u8])
     requires exact { length into.old ≡ 16 }
-    requires keeps { Keeps check_report_format value.now }
+    requires keeps { KeepsLimits check_report_format value.now }
     ensures { Spells check_report_format value.now into.new }
 {
     value.write(into);

@@ -1,7 +1,7 @@
 //! The pages that say on which block each logical page stands.
 ghost use Rattle.std.specs.Prelude.{◌≡◌, ◌+◌, ◌≤◌, map, length, drop};
 ghost use Rattle.mdb_bytes.specs.Fields.{Spells, Decodes, number_at, read_run};
-ghost use Rattle.mdb_bytes.specs.Parts.{field_of, page_len, Keeps};
+ghost use Rattle.mdb_bytes.specs.Parts.{field_of, page_len, KeepsLimits};
 ghost use Rattle.mdb_bytes.specs.ConverterPages.{converter_root_front, converter_root_format, converter_entry_fields, converter_entry_reads, converter_entry_format, converter_leaf_front, converter_leaf_format};
 
 use crate::numbers::{u32_at, u64_at};
@@ -196,7 +196,7 @@ impl Record for ConverterLeaf {
 /// The page of a converter root.
 pub fn encode_converter_root(value: &ConverterRoot, into: &mut [u8])
     requires exact { length into.old ≡ page_len }
-    requires keeps { Keeps converter_root_format value.now }
+    requires keeps { KeepsLimits converter_root_format value.now }
     ensures { Spells converter_root_format value.now into.new }
 {
     value.write(into);
@@ -212,7 +212,7 @@ pub fn decode_converter_root(bytes: &[u8]) -> Option<ConverterRoot>
 /// The page of a converter leaf.
 pub fn encode_converter_leaf(value: &ConverterLeaf, into: &mut [u8])
     requires exact { length into.old ≡ page_len }
-    requires keeps { Keeps converter_leaf_format value.now }
+    requires keeps { KeepsLimits converter_leaf_format value.now }
     ensures { Spells converter_leaf_format value.now into.new }
 {
     value.write(into);

@@ -2,9 +2,9 @@
 ghost use Rattle.std.specs.Prelude.{◌≡◌, ◌+◌, ◌<◌, ◌≤◌, ◌^◌, [], ◌∷◌, ◌++◌, length, IsTrue};
 ghost use Rattle.byteorder.specs.Endian.{big_bytes};
 ghost use Rattle.mdb_model.specs.Sessions.{change_bytes, group_bytes};
-ghost use Rattle.mdb_bytes.specs.Fields.{Byte, Two, Text, Spells, spelled, fields_fit, number_end};
+ghost use Rattle.mdb_bytes.specs.Fields.{Byte, Two, Text, Spells, spelled, fields_fit, number_limit};
 ghost use Rattle.mdb_bytes.specs.Groups.{group_format, group_fits, change_fields, change_fits, longest_group};
-ghost use Rattle.mdb_bytes.specs.GroupHeads.{head_fields};
+ghost use Rattle.mdb_bytes.specs.GroupHeads.{group_head_fields};
 
 use crate::group_buf::GroupBuf;
 use byteorder::{BigEndian, ByteOrder};
@@ -12,36 +12,36 @@ use mdb_model::change::Change;
 use mdb_model::limits::OPEN_GATE;
 use mdb_model::name::{Name, Table};
 
-fn put_two(into: &mut GroupBuf, n: u16)
+fn put_two(into: &mut GroupBuf, number: u16)
     requires { length into.old + 2 ≤ longest_group }
-    ensures { into.new ≡ into.old ++ big_bytes 2 n }
+    ensures { into.new ≡ into.old ++ big_bytes 2 number }
 {
     let mut bytes = [0u8; 2];
-    BigEndian::write_u16(&mut bytes, n);
+    BigEndian::write_u16(&mut bytes, number);
     into.append(&bytes);
 }
 
-fn put_four(into: &mut GroupBuf, n: u32)
+fn put_four(into: &mut GroupBuf, number: u32)
     requires { length into.old + 4 ≤ longest_group }
-    ensures { into.new ≡ into.old ++ big_bytes 4 n }
+    ensures { into.new ≡ into.old ++ big_bytes 4 number }
 {
     let mut bytes = [0u8; 4];
-    BigEndian::write_u32(&mut bytes, n);
+    BigEndian::write_u32(&mut bytes, number);
     into.append(&bytes);
 }
 
-fn put_eight(into: &mut GroupBuf, n: u64)
+fn put_eight(into: &mut GroupBuf, number: u64)
     requires { length into.old + 8 ≤ longest_group }
-    ensures { into.new ≡ into.old ++ big_bytes 8 n }
+    ensures { into.new ≡ into.old ++ big_bytes 8 number }
 {
     let mut bytes = [0u8; 8];
-    BigEndian::write_u64(&mut bytes, n);
+    BigEndian::write_u64(&mut bytes, number);
     into.append(&bytes);
 }
 
 /// The head of a group in place of what stood there.
 pub fn begin_group(into: &mut GroupBuf, length: u32, name: Name, number: u64, changes: u32)
-    ensures { into.new ≡ spelled (head_fields
+    ensures { into.new ≡ spelled (group_head_fields
         (record { length = length; name = name; number = number; changes = changes })) }
 {
     into.clear();
@@ -70,7 +70,7 @@ fn put_parts(into: &mut GroupBuf, table: Table, kind: u8, key: &[u8], value: &[u
     into.append(value);
 }
 
-/// One more change behind what stands there.
+/// One more change after what stands there.
 pub fn put_change(into: &mut GroupBuf, change: &Change)
     requires fits { IsTrue (change_fits change.now) }
     requires room { length into.old + change_bytes change.now ≤ longest_group }
@@ -110,8 +110,8 @@ fn len_of(changes: &[Change]) -> usize
 pub fn encode_group(into: &mut GroupBuf, name: Name, number: u64, changes: &[Change])
     requires fits { IsTrue (group_fits (record
         { name = name; number = number; changes = changes.now })) }
-    requires numbers { (name.birth < number_end) × (name.generation < number_end)
-        × (number < number_end) }
+    requires numbers { (name.birth < number_limit) × (name.generation < number_limit)
+        × (number < number_limit) }
     ensures { Spells group_format (record { name = name; number = number; changes = changes.now })
         into.new }
 {

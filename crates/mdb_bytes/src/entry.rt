@@ -4,7 +4,7 @@ ghost use Rattle.mdb_model.specs.Sessions.{change_bytes};
 ghost use Rattle.mdb_bytes.specs.Fields.{Spells};
 ghost use Rattle.mdb_bytes.specs.Groups.{Group, group_format};
 ghost use Rattle.mdb_bytes.specs.LoggedChanges.{change_of};
-ghost use Rattle.mdb_bytes.specs.ChangeEntries.{entry_in, FindsEntry, Skips};
+ghost use Rattle.mdb_bytes.specs.ChangeEntries.{entry_in, FindsChange, Skips};
 
 use crate::changes::{LoggedChange, first_change};
 
@@ -19,12 +19,12 @@ pub struct ChangeEntry {
     pub value: (usize, usize),
 }
 
-// What stands behind the first n changes.
-fn skip(bytes: &[u8], n: usize) -> Option<&[u8]>
-    ensures { Skips bytes.now n result }
+// What stands after the first n changes.
+fn skip(bytes: &[u8], count: usize) -> Option<&[u8]>
+    ensures { Skips bytes.now count result }
 {
     let mut rest = bytes;
-    for _ in 0..n {
+    for _ in 0..count {
         let Some((_, behind)) = first_change(rest) else {
             return None;
         };
@@ -55,9 +55,9 @@ fn entry_at(place: usize, change: LoggedChange<'_>) -> ChangeEntry
 
 /// The change of a group with this number, counted from 0. Each call goes over the changes in
 /// front.
-pub fn group_entry(bytes: &[u8], i: usize) -> Option<ChangeEntry>
+pub fn group_entry(bytes: &[u8], index: usize) -> Option<ChangeEntry>
     ensures entry { (v : Group) → Spells group_format v bytes.now
-        → FindsEntry bytes.now v.changes i result }
+        → FindsChange bytes.now v.changes index result }
     ensures within { IfSome result (λ e. (e.key.0 + e.key.1 ≤ length bytes.now)
         × (e.value.0 + e.value.1 ≤ length bytes.now)) }
 {
@@ -65,7 +65,7 @@ pub fn group_entry(bytes: &[u8], i: usize) -> Option<ChangeEntry>
         return None;
     }
     let body = bytes.split_at(33).1;
-    let Some(rest) = skip(body, i) else {
+    let Some(rest) = skip(body, index) else {
         return None;
     };
     let Some((change, _)) = first_change(rest) else {

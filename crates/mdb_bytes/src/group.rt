@@ -1,8 +1,8 @@
 //! The group of a commit.
 ghost use Rattle.std.specs.Prelude.{◌≡◌, ◌<◌, ◌≤◌, ◌↔◌, length, IsTrue, Some};
-ghost use Rattle.mdb_bytes.specs.Fields.{Spells, number_at, number_end};
+ghost use Rattle.mdb_bytes.specs.Fields.{Spells, number_at, number_limit};
 ghost use Rattle.mdb_bytes.specs.Groups.{Group, group_format};
-ghost use Rattle.mdb_bytes.specs.GroupHeads.{head_of, head_read, FindsHead, IsHeadFor, IsDue};
+ghost use Rattle.mdb_bytes.specs.GroupHeads.{group_head_of, head_read, FindsHead, IsHeadFor, IsGroup};
 
 use crate::numbers::{byte_at, u32_at, u64_at};
 use crate::order::are_changes;
@@ -27,8 +27,9 @@ pub fn group_len(front: &[u8]) -> u32
 }
 
 fn numbers_fit(head: GroupHead) -> bool
-    ensures { IsTrue result ↔ ((head.name.birth < number_end) × (head.name.generation < number_end)
-        × (head.number < number_end)) }
+    ensures { IsTrue result ↔ ((head.name.birth < number_limit)
+        × (head.name.generation < number_limit)
+        × (head.number < number_limit)) }
 {
     head.name.birth < LAYOUT_NUMBER_END
         && head.name.generation < LAYOUT_NUMBER_END
@@ -69,7 +70,8 @@ fn first_head(bytes: &[u8]) -> Option<GroupHead>
 /// The head of a group; none where the bytes begin with no head.
 pub fn group_head(bytes: &[u8]) -> Option<GroupHead>
     ensures head { FindsHead bytes.now result }
-    ensures group { (v : Group) → Spells group_format v bytes.now → result ≡ Some (head_of v) }
+    ensures group { (v : Group) → Spells group_format v bytes.now
+        → result ≡ Some (group_head_of v) }
 {
     first_head(bytes)
 }
@@ -85,7 +87,7 @@ fn is_head_for(head: GroupHead, name: Name, number: u64, len: usize) -> bool
 
 /// Whether the bytes are the group of this number in this database.
 pub fn is_due(bytes: &[u8], name: Name, number: u64) -> bool
-    ensures { IsTrue result ↔ IsDue name number bytes.now }
+    ensures { IsTrue result ↔ IsGroup name number bytes.now }
 {
     let Some(head) = group_head(bytes) else {
         return false;

@@ -26,17 +26,17 @@ impl Model for GroupBuf {
 }
 
 // So many zeros.
-fn zeros(alloc: Global, n: usize) -> Result<Vec<u8>, Memory>
-    ensures len { IfOk result (λ v. length v.items ≡ n) }
+fn zeros(alloc: Global, count: usize) -> Result<Vec<u8>, Memory>
+    ensures len { IfOk result (λ v. length v.items ≡ count) }
     ensures first { IfOk result (λ v. slice_index v.items 0 ≡ 0) }
 {
-    match vec![in alloc; 0; n] {
+    match vec![in alloc; 0; count] {
         Ok(zeros) => Ok(zeros),
         Err(_) => Err(Memory),
     }
 }
 
-// Writes bytes from a place on, and a zero behind them.
+// Writes bytes from a place on, and a zero after them.
 fn put_at(room: &mut [u8], place: usize, bytes: &[u8])
     requires { place + length bytes.now < length room.old }
     ensures front { take (place + length bytes.now) room.new ≡ take place room.old ++ bytes.now }
@@ -73,7 +73,7 @@ impl GroupBuf {
         &self.room[..self.len]
     }
 
-    /// The bytes and a closed gate behind them.
+    /// The bytes and a closed gate after them.
     pub fn closed(&self) -> &[u8]
         ensures bytes { result.now ≡ self.now ++ 0 ∷ [] }
         ensures most { length self.now ≤ longest_group }
@@ -89,7 +89,7 @@ impl GroupBuf {
         self.len = 0;
     }
 
-    /// Puts bytes behind those that are there.
+    /// Puts bytes after those that are there.
     pub fn append(&mut self, bytes: &[u8])
         requires { length self.old + length bytes.now ≤ longest_group }
         ensures { self.new ≡ self.old ++ bytes.now }

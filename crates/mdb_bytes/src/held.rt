@@ -1,6 +1,6 @@
 //! What the crates of tables, transactions and restarts stand on: keepers of rows, of undo files
 //! and of a log.
-ghost use Rattle.std.specs.Prelude.{◌≡◌, ℕ, ◌+◌, ◌≤◌, true, IsTrue, IfOk, IfErr, OnOk, is_some, option_map};
+ghost use Rattle.std.specs.Prelude.{◌≡◌, ℕ, ◌+◌, ◌≤◌, true, length, IsTrue, IfOk, IfErr, OnOk, is_some, option_map};
 ghost use Rattle.std.specs.FinMap.{get, insert, remove};
 ghost use Rattle.mdb_model.specs.declared.change.Change.TheVariants.{Put, Del};
 ghost use Rattle.mdb_model.specs.Script.{is_table, is_key, is_session};
@@ -8,12 +8,12 @@ ghost use Rattle.mdb_model.specs.Space.{table_pages, table_cost};
 ghost use Rattle.mdb_bytes.specs.Groups.{change_fits};
 ghost use Rattle.mdb_bytes.specs.Held.{
   Holding,
-  IsRow,
+  IsFoundRow,
   next_row,
   IsNextRow,
   before_fits,
   before_of,
-  noted,
+  with_before_image,
   without_file,
   IsLastTaken,
   IsNextGroup,
@@ -29,7 +29,7 @@ use mdb_model::name::{Session, Table};
 /// A keeper of rows, of undo files or of a log. It has no calls; the traits below say what a call
 /// does to what is held.
 pub trait Held {
-    /// Whether what is held is known: over pages, whether their bytes are told and keep the rules
+    /// Whether what is held is known: over pages, whether their bytes are known and keep the rules
     /// on the form of pages, of trees and of undo files.
     ghost is_known: { Self → Type 0 };
 
@@ -60,8 +60,8 @@ pub trait Rows: Held {
         requires table { IsTrue (is_table table.0) }
         requires key { IsTrue (is_key key.now) }
         ensures found { Self.is_known self.old
-            → IfOk result (λ found. IsRow found (get (Self.held self.old).rows (table.0, key.now))
-            into.new.items) }
+            → IfOk result (λ found. IsFoundRow found
+            (get (Self.held self.old).rows (table.0, key.now)) into.new.items) }
         ensures same { Self.is_known self.old
             → OnOk result (Self.is_known self.new × (Self.held self.new ≡ Self.held self.old)) }
         ensures spare { Self.spare self.old ≤ Self.spare self.new }
@@ -169,7 +169,7 @@ pub trait UndoFile: Held {
         requires room { 2 ≤ Self.spare self.old }
         ensures noted { Self.is_known self.old → OnOk result (Self.is_known self.new
             × (Self.held self.new ≡ record (Self.held self.old) {
-              undo = noted (Self.held self.old).undo session.0
+              undo = with_before_image (Self.held self.old).undo session.0
                   (record {
                     place = (table.0, key.now);
                     value = option_map (λ value. value.now)
@@ -233,6 +233,9 @@ pub trait Work: Rows + UndoFile {
 
 /// The log, from some group on. What else is held stays as it is.
 pub trait LogRead: Held {
+    /// How many bytes of the log may still be read. Whatever the devices hold, a log ends.
+    ghost left: { Self → ℕ };
+
     /// Reads the group of the first commit that is left; false at the end of the log.
     fn next(&mut self, into: &mut GroupBuf) -> Result<bool, PageFault>
         ensures found { Self.is_known self.old
@@ -242,8 +245,13 @@ pub trait LogRead: Held {
             → OnOk result (Self.is_known self.new
             × (Self.held self.new ≡ record (Self.held self.old)
             { log = (Self.held self.new).log })) }
+        ensures shorter { IfOk result (λ found. found ≡ true
+            → length into.new + Self.left self.new ≤ Self.left self.old) }
         ensures spare { Self.spare self.old ≤ Self.spare self.new }
         ensures cause { HasPageCause (Self.is_known self.old) (Self.faults self.old)
             (Self.faults self.new) result }
         ensures follows { Self.follows self.old self.new };
+
+    /// No call makes the log longer.
+    ghost reads_on: { (a b : Self) → Self.follows a b → left b ≤ left a };
 }

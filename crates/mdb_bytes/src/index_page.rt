@@ -2,7 +2,7 @@
 ghost use Rattle.std.specs.Prelude.{◌≡◌, ◌+◌, ◌≤◌, ℕ, List, ◌↔◌, length, IsTrue, None, MatchOption, IfSome};
 ghost use Rattle.mdb_bytes.specs.Fields.{Spells};
 ghost use Rattle.mdb_bytes.specs.TablePages.{Child, IndexPage, child_format, index_format};
-ghost use Rattle.mdb_bytes.specs.EntryPages.{child_layout, BeginsWith, IsRun};
+ghost use Rattle.mdb_bytes.specs.EntryPages.{child_layout, BeginsWith, IsEntryRun};
 ghost use Rattle.mdb_bytes.specs.EntryHeads.{child_head_in};
 ghost use Rattle.mdb_bytes.specs.PageEntries.{FindsEntry, IsChildEntry};
 
@@ -34,7 +34,7 @@ fn head_at_front(bytes: &[u8]) -> ChildHead
     }
 }
 
-// The separator of the child at the front, and what stands behind the child; none where the bytes
+// The separator of the child at the front, and what stands after the child; none where the bytes
 // begin with no child.
 fn first_child(bytes: &[u8]) -> Option<(&[u8], &[u8])>
     ensures { MatchOption result
@@ -59,7 +59,7 @@ fn first_child(bytes: &[u8]) -> Option<(&[u8], &[u8])>
 // Whether the bytes are so many children by ascending separator, and these are their slots.
 fn are_children(children: &[u8], slots: &[u8], count: usize) -> bool
     requires { length children.now ≤ 8128 }
-    ensures { IsTrue result ↔ IsRun child_layout None count 64 children.now slots.now }
+    ensures { IsTrue result ↔ IsEntryRun child_layout None count 64 children.now slots.now }
 {
     let mut rest = children;
     let mut left = slots;
@@ -109,12 +109,12 @@ pub fn check_index_page(bytes: &[u8]) -> bool
 /// The child of an index page with this number, counted from 0; none where there are no more. Its
 /// slot tells its place. Of bytes that are no index page it is only known that the separator lies
 /// within them.
-pub fn index_page_entry(bytes: &[u8], i: usize) -> Option<IndexPageEntry>
+pub fn index_page_entry(bytes: &[u8], index: usize) -> Option<IndexPageEntry>
     ensures entry { (v : IndexPage) → Spells index_format v bytes.now
-        → FindsEntry (IsChildEntry bytes.now) v.children i result }
+        → FindsEntry (IsChildEntry bytes.now) v.children index result }
     ensures within { IfSome result (λ e. e.key.0 + e.key.1 ≤ length bytes.now) }
 {
-    let Some((place, front)) = entry_front(bytes, i) else {
+    let Some((place, front)) = entry_front(bytes, index) else {
         return None;
     };
     if front.len() < 6 {

@@ -1,7 +1,7 @@
 //! The log info, the body of a slot of the log volume.
 ghost use Rattle.std.specs.Prelude.{◌≡◌, ◌+◌, ◌≤◌, map, length};
 ghost use Rattle.mdb_bytes.specs.Fields.{Spells, Decodes, number_at};
-ghost use Rattle.mdb_bytes.specs.Parts.{field_of, Keeps};
+ghost use Rattle.mdb_bytes.specs.Parts.{field_of, KeepsLimits};
 ghost use Rattle.mdb_bytes.specs.SlotRecords.{slot_len, log_info_fields, log_info_format};
 
 use crate::numbers::{u32_at, u64_at};
@@ -20,7 +20,7 @@ pub struct LogInfo {
     pub name: Name,
     /// The last commit that a backup holds.
     pub saved_commit: u64,
-    /// Where the log behind it begins.
+    /// Where the log after it begins.
     pub saved_position: u64,
     /// The medium of a log backup that was begun, or 0.
     pub pending_medium: u32,
@@ -28,7 +28,7 @@ pub struct LogInfo {
     pub pages: u32,
     /// The last commit of that backup.
     pub pending_commit: u64,
-    /// Where the log behind it begins.
+    /// Where the log after it begins.
     pub pending_position: u64,
 }
 
@@ -91,7 +91,7 @@ impl Record for LogInfo {
 /// The body of a slot with this log info.
 pub fn encode_log_info(value: &LogInfo, into: &mut [u8])
     requires exact { length into.old ≡ slot_len }
-    requires keeps { Keeps log_info_format value.now }
+    requires keeps { KeepsLimits log_info_format value.now }
     ensures { Spells log_info_format value.now into.new }
 {
     value.write(into);

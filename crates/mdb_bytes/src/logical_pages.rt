@@ -1,7 +1,7 @@
 //! The logical pages of fixed fields.
 ghost use Rattle.std.specs.Prelude.{◌≡◌, ◌+◌, ◌≤◌, map, min, length, drop};
 ghost use Rattle.mdb_bytes.specs.Fields.{Spells, Decodes, number_at, read_run};
-ghost use Rattle.mdb_bytes.specs.Parts.{field_of, page_len, Keeps, ascend_from};
+ghost use Rattle.mdb_bytes.specs.Parts.{field_of, page_len, KeepsLimits, ascend_from};
 ghost use Rattle.mdb_bytes.specs.LogicalPages.{header_fields, catalogue_entry_fields, catalogue_entry_reads, catalogue_format, open_entry_fields, open_entry_reads, open_list_front, open_list_format};
 
 use crate::numbers::{byte_at, u16_at, u32_at, u64_at};
@@ -12,7 +12,7 @@ use crate::record::{
 };
 use arrayvec::ArrayVec;
 
-/// What is told of one table.
+/// What is known of one table.
 #[derive(Clone, Copy, Debug, Default, PartialEq, Eq)]
 pub struct CatalogueEntry {
     /// The root page of its rows, 0 for no row.
@@ -257,7 +257,7 @@ impl Record for OpenList {
 /// The page of the catalogue.
 pub fn encode_catalogue(value: &Catalogue, into: &mut [u8])
     requires exact { length into.old ≡ page_len }
-    requires keeps { Keeps catalogue_format value.now }
+    requires keeps { KeepsLimits catalogue_format value.now }
     ensures { Spells catalogue_format value.now into.new }
 {
     value.write(into);
@@ -273,7 +273,7 @@ pub fn decode_catalogue(bytes: &[u8]) -> Option<Catalogue>
 /// The page of the open list.
 pub fn encode_open_list(value: &OpenList, into: &mut [u8])
     requires exact { length into.old ≡ page_len }
-    requires keeps { Keeps open_list_format value.now }
+    requires keeps { KeepsLimits open_list_format value.now }
     ensures { Spells open_list_format value.now into.new }
 {
     value.write(into);

@@ -1,9 +1,9 @@
 //! The pages of media that have fixed fields.
 ghost use Rattle.std.specs.Prelude.{◌≡◌, ◌+◌, ◌≤◌, map, length, take, drop};
 ghost use Rattle.mdb_bytes.specs.Fields.{Spells, Decodes, number_at};
-ghost use Rattle.mdb_bytes.specs.Parts.{field_of, page_len, Keeps};
+ghost use Rattle.mdb_bytes.specs.Parts.{field_of, page_len, KeepsLimits};
 ghost use Rattle.mdb_bytes.specs.SlotRecords.{slot_len};
-ghost use Rattle.mdb_bytes.specs.MediumPages.{kind_number, kind_of, header_kind_fits, medium_header_fields, medium_header_format, live_set_front, live_set_format};
+ghost use Rattle.mdb_bytes.specs.MediumPages.{kind_number, backup_kind_of, header_kind_fits, medium_header_fields, medium_header_format, live_set_front, live_set_format};
 
 use crate::numbers::{u32_at, u64_at};
 use crate::parts::{Part, bytes_fit, name_at, parts_fit, write_parts, write_zeros};
@@ -99,7 +99,7 @@ fn number_of_kind(kind: BackupKind) -> u32
 }
 
 fn kind_of_number(number: u32) -> BackupKind
-    ensures { result ≡ kind_of number }
+    ensures { result ≡ backup_kind_of number }
 {
     if number == 1 {
         return BackupKind::OfPages(PageKind::Complete);
@@ -211,7 +211,7 @@ impl Record for LiveSet {
 /// The first page of a medium without its gate.
 pub fn encode_medium_header(value: &MediumHeader, into: &mut [u8])
     requires exact { length into.old ≡ slot_len }
-    requires keeps { Keeps medium_header_format value.now }
+    requires keeps { KeepsLimits medium_header_format value.now }
     ensures { Spells medium_header_format value.now into.new }
 {
     value.write(into);
@@ -227,7 +227,7 @@ pub fn decode_medium_header(bytes: &[u8]) -> Option<MediumHeader>
 /// A page of a live set.
 pub fn encode_live_set(value: &LiveSet, into: &mut [u8])
     requires exact { length into.old ≡ page_len }
-    requires keeps { Keeps live_set_format value.now }
+    requires keeps { KeepsLimits live_set_format value.now }
     ensures { Spells live_set_format value.now into.new }
 {
     value.write(into);

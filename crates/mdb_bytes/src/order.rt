@@ -2,7 +2,7 @@
 ghost use Rattle.std.specs.Prelude.{◌≡◌, ◌↔◌, IsTrue, None};
 ghost use Rattle.std.specs.Ordering.{is_lt};
 ghost use Rattle.mdb_model.specs.Tables.{place_cmp};
-ghost use Rattle.mdb_bytes.specs.ChangeOrder.{place_at, last_place, follows, IsRun};
+ghost use Rattle.mdb_bytes.specs.ChangeOrder.{place_at, last_place, place_follows, IsChangeRun};
 
 use crate::changes::{LoggedPlace, first_change};
 use std::cmp::Ordering;
@@ -20,7 +20,7 @@ fn is_before(place: LoggedPlace<'_>, other: LoggedPlace<'_>) -> bool
 }
 
 fn may_follow(last: Option<LoggedPlace<'_>>, place: LoggedPlace<'_>) -> bool
-    ensures { result ≡ follows (last_place last.entry) (place_at place.entry) }
+    ensures { result ≡ place_follows (last_place last.entry) (place_at place.entry) }
 {
     match last {
         None => true,
@@ -30,7 +30,7 @@ fn may_follow(last: Option<LoggedPlace<'_>>, place: LoggedPlace<'_>) -> bool
 
 /// Whether the bytes are so many changes, which ascend.
 pub fn are_changes(bytes: &[u8], count: usize) -> bool
-    ensures { IsTrue result ↔ IsRun None count bytes.now }
+    ensures { IsTrue result ↔ IsChangeRun None count bytes.now }
 {
     let mut rest = bytes;
     let mut last: Option<LoggedPlace<'_>> = None;

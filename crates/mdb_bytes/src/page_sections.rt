@@ -3,18 +3,18 @@ ghost use Rattle.std.specs.Prelude.{◌≡◌, ◌+◌, ◌<◌, ◌≤◌, ◌^
 ghost use Rattle.mdb_bytes.specs.Fields.{Two, Spells, spelled};
 ghost use Rattle.mdb_bytes.specs.TablePages.{RowLeaf, IndexPage, row_leaf_format, index_format};
 ghost use Rattle.mdb_bytes.specs.UndoPages.{UndoPage, undo_page_format};
-ghost use Rattle.mdb_bytes.specs.EntryPages.{page_head_in, leaf_head, index_head, undo_head, FindsSections, FindsFront, follows, key_in};
+ghost use Rattle.mdb_bytes.specs.EntryPages.{page_head_in, leaf_head, index_head, undo_head, FindsSections, FindsFront, key_follows, key_in};
 
 use crate::numbers::{byte_at, u16_at, u32_at};
 use mdb_model::limits::PAGE_BYTES;
 use std::cmp::Ordering;
 
-// how many bytes of a header its fields take, and how many are zero behind them
+// how many bytes of a header its fields take, and how many are zero after them
 const NAMED_LEN: usize = 16;
 
 const UNNAMED_LEN: usize = 48;
 
-// how many bytes of a page are left behind its header
+// how many bytes of a page are left after its header
 const PAGE_ROOM: usize = 8128;
 
 // how many slots of two bytes have room
@@ -104,9 +104,9 @@ pub fn sections_of(bytes: &[u8], slot_len: usize) -> Option<Sections<'_>>
     })
 }
 
-/// Whether an entry with this key may stand behind one with the last key.
+/// Whether an entry with this key may stand after one with the last key.
 pub fn may_stand(last: Option<&[u8]>, key: &[u8]) -> bool
-    ensures { result ≡ follows (key_in last.entry) (Some key.now) }
+    ensures { result ≡ key_follows (key_in last.entry) (Some key.now) }
 {
     match last {
         None => true,
@@ -135,16 +135,16 @@ pub fn slots_in_front(slots: &[u8], place: usize) -> Option<&[u8]>
 }
 
 /// The place of an entry by its slot, and what stands from there on.
-pub fn entry_front(bytes: &[u8], i: usize) -> Option<(usize, &[u8])>
-    ensures { FindsFront bytes.now i result }
+pub fn entry_front(bytes: &[u8], index: usize) -> Option<(usize, &[u8])>
+    ensures { FindsFront bytes.now index result }
 {
-    if bytes.len() != PAGE_BYTES || i >= MOST_SLOTS {
+    if bytes.len() != PAGE_BYTES || index >= MOST_SLOTS {
         return None;
     }
-    if i >= u16_at(bytes, 8) as usize {
+    if index >= u16_at(bytes, 8) as usize {
         return None;
     }
-    let place = u16_at(bytes, PAGE_BYTES - 2 * (i + 1)) as usize;
+    let place = u16_at(bytes, PAGE_BYTES - 2 * (index + 1)) as usize;
     if place > PAGE_BYTES {
         return None;
     }

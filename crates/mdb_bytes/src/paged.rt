@@ -13,8 +13,8 @@ ghost use Rattle.mdb_bytes.specs.Paged.{
   is_paid,
   price,
   StayPaid,
-  IsKept,
-  IsWritten,
+  KeepsAllPages,
+  WritesPage,
   IsNew,
   MayEdit,
   AreEdited,
@@ -22,7 +22,7 @@ ghost use Rattle.mdb_bytes.specs.Paged.{
 
 use mdb_model::fault::PageFault;
 
-/// An edit of two pages, which `write_pair` carries out. It is told nothing of the pages but their
+/// An edit of two pages, which `write_pair` carries out. It knows nothing of the pages but their
 /// bytes, and may refuse them.
 pub trait PairEdit {
     /// Which bytes of the two pages it can be given.
@@ -31,7 +31,7 @@ pub trait PairEdit {
     /// What it makes of the bytes of the two pages, and what it answers.
     ghost does: { Self → Bool → List ℕ → List ℕ → List ℕ → List ℕ → Type 0 };
 
-    /// Edits both pages, and answers what the caller is to be told.
+    /// Edits both pages, and answers what the caller is to know.
     fn edit(&self, a: &mut [u8; 8192], b: &mut [u8; 8192]) -> bool
         requires { Self.may self.now a.old b.old }
         ensures { Self.does self.now result a.old b.old a.new b.new };
@@ -77,8 +77,8 @@ pub trait Pages {
         ensures fresh { IfOk result (λ page. IsNew page (Self.is_known self.old)
             (Self.is_known self.new) (Self.pages self.old) (Self.pages self.new)
             (Self.paid self.old) (Self.paid self.new)) }
-        ensures kept { OnErr result (IsKept (Self.is_known self.old) (Self.is_known self.new) 1
-            (Self.pages self.old) (Self.pages self.new) (Self.paid self.old) (Self.paid self.new)
+        ensures kept { OnErr result (KeepsAllPages (Self.is_known self.old) (Self.is_known self.new)
+            1 (Self.pages self.old) (Self.pages self.new) (Self.paid self.old) (Self.paid self.new)
             (Self.spare self.old) (Self.spare self.new)) }
         ensures spare { Self.spare self.old ≤ Self.spare self.new + 1 }
         ensures cause { HasPageCause (Self.is_known self.old) (Self.faults self.old)
@@ -97,8 +97,8 @@ pub trait Pages {
         ensures stay_paid { OnOk result ((other : ℕ) → other ≢ page
             → is_paid (Self.paid self.old) other ≡ true
             → is_paid (Self.paid self.new) other ≡ true) }
-        ensures kept { OnErr result (IsKept (Self.is_known self.old) (Self.is_known self.new) 0
-            (Self.pages self.old) (Self.pages self.new) (Self.paid self.old) (Self.paid self.new)
+        ensures kept { OnErr result (KeepsAllPages (Self.is_known self.old) (Self.is_known self.new)
+            0 (Self.pages self.old) (Self.pages self.new) (Self.paid self.old) (Self.paid self.new)
             (Self.spare self.old) (Self.spare self.new)) }
         ensures spare { Self.spare self.old ≤ Self.spare self.new }
         ensures cause { HasPageCause (Self.is_known self.old) (Self.faults self.old)
@@ -109,7 +109,8 @@ pub trait Pages {
     fn read(&mut self, page: u32) -> Result<&[u8; 8192], PageFault>
         requires { IsTrue (is_live (Self.pages self.old) page) }
         ensures* lends { sem 𝓛 (follows_so Self.row Self.row self.entry.ghost_name none (λ _ _. ⊤)
-            (λ left. IsKept (Self.is_known self.old) (Self.is_known left) 0 (Self.pages self.old)
+            (λ left. KeepsAllPages (Self.is_known self.old) (Self.is_known left) 0
+            (Self.pages self.old)
             (Self.pages left) (Self.paid self.old) (Self.paid left) (Self.spare self.old)
             (Self.spare left)
             × HasPageCause (Self.is_known self.old) (Self.faults self.old) (Self.faults left) result
@@ -123,12 +124,12 @@ pub trait Pages {
         requires lives { IsTrue (is_live (Self.pages self.old) page) }
         requires room { price (Self.paid self.old) page ≤ Self.spare self.old }
         ensures* lends { sem 𝓛 (LendsSoOk Self.row (Array u8 8192) self.entry result
-            (λ left bytes. IsWritten page bytes (Self.is_known self.old) (Self.is_known left)
+            (λ left bytes. WritesPage page bytes (Self.is_known self.old) (Self.is_known left)
             (Self.pages self.old) (Self.pages left) (Self.paid self.old) (Self.paid left)
             (Self.spare self.old) (Self.spare left)
             × HasPageCause (Self.is_known self.old) (Self.faults self.old) (Self.faults left) result
             × Self.follows self.old left)
-            (λ left. IsKept (Self.is_known self.old) (Self.is_known left)
+            (λ left. KeepsAllPages (Self.is_known self.old) (Self.is_known left)
             (price (Self.paid self.old) page) (Self.pages self.old) (Self.pages left)
             (Self.paid self.old) (Self.paid left) (Self.spare self.old) (Self.spare left)
             × HasPageCause (Self.is_known self.old) (Self.faults self.old) (Self.faults left) result
@@ -148,7 +149,7 @@ pub trait Pages {
         ensures edited { IfOk result (λ answer. AreEdited (E.does edit.now answer) a b
             (Self.is_known self.old) (Self.is_known self.new) (Self.pages self.old)
             (Self.pages self.new) (Self.paid self.old) (Self.paid self.new)) }
-        ensures kept { OnErr result (IsKept (Self.is_known self.old) (Self.is_known self.new)
+        ensures kept { OnErr result (KeepsAllPages (Self.is_known self.old) (Self.is_known self.new)
             (price (Self.paid self.old) a
             + price (Self.paid self.old) b) (Self.pages self.old) (Self.pages self.new)
             (Self.paid self.old) (Self.paid self.new) (Self.spare self.old) (Self.spare self.new)) }

@@ -62,7 +62,7 @@ pub(crate) fn decode<R: Record, const N: usize>(bytes: &[u8]) -> Option<R>
     }
 }
 
-/// Writes the rows one after the other, and zeros behind them.
+/// Writes the rows one after the other, and zeros after them.
 pub(crate) fn write_table<R: Record>(into: &mut [u8], rows: &[R])
     requires { R.size * length rows.now ≤ length into.old }
     ensures { into.new ≡ spelled (table_fields R.format.fields R.size (length into.old) rows.now) }
@@ -89,7 +89,7 @@ pub(crate) fn write_section<R: Record>(into: &mut [u8], parts: &[Part], at: usiz
     write_table(back, rows);
 }
 
-/// Whether the fields of some parts and of the rows behind them have room for their numbers.
+/// Whether the fields of some parts and of the rows after them have room for their numbers.
 pub(crate) fn section_has_room<R: Record>(parts: &[Part], rows: &[R]) -> bool
     ensures { (room : ℕ) → result ≡ fields_fit (map field_of parts.now
         ++ table_fields R.format.fields R.size room rows.now) }
@@ -261,7 +261,7 @@ macro_rules! read_parts {
 
 // The bodies of a record from the table of its fields: the place of each, and what stands there.
 // The rows of a `table` stand from its place on; the place where their `count` stands and the most
-// that there may be are told with it. A record with tables has a section in front of each of them.
+// that there may be are given with it. A record with tables has a section in front of each of them.
 macro_rules! record {
     (front $v:ident; $name:ident; {$($front:tt)*} $($more:tt)*) => { parts_of!($v; []; $($front)*) };
     (middle $v:ident; $name:ident; {$($front:tt)*} {$($middle:tt)*}) => { parts_of!($v; []; $($middle)*) };

@@ -1,8 +1,8 @@
 //! The restart record, the body of a slot of the data area.
 ghost use Rattle.std.specs.Prelude.{◌≡◌, ◌+◌, ◌≤◌, map, length};
 ghost use Rattle.mdb_bytes.specs.Fields.{Spells, Decodes, number_at};
-ghost use Rattle.mdb_bytes.specs.Parts.{field_of, Keeps, ascend_from};
-ghost use Rattle.mdb_bytes.specs.SlotRecords.{slot_len, state_number, state_of, snapshot_fields, snapshot_format, restart_front, restart_middle, restart_numbers_fit, restart_tables_fit, restart_format};
+ghost use Rattle.mdb_bytes.specs.Parts.{field_of, KeepsLimits, ascend_from};
+ghost use Rattle.mdb_bytes.specs.SlotRecords.{slot_len, state_number, area_state_of, snapshot_fields, snapshot_format, restart_front, restart_middle, restart_numbers_fit, restart_tables_fit, restart_format};
 
 use crate::numbers::{u32_at, u64_at};
 use crate::parts::{Part, name_at, parts_fit, write_parts};
@@ -31,7 +31,7 @@ impl AreaState {
     }
 
     fn of_number(number: u32) -> AreaState
-        ensures { result ≡ state_of number }
+        ensures { result ≡ area_state_of number }
     {
         if number == 0 {
             AreaState::Normal
@@ -69,7 +69,7 @@ pub struct RestartRecord {
     pub savepoint: u64,
     /// The last commit that it holds.
     pub commit: u64,
-    /// Where the log behind it begins.
+    /// Where the log after it begins.
     pub position: u64,
     /// The block of its converter root, 0 only while a restore is open.
     pub root: u32,
@@ -237,7 +237,7 @@ impl Record for RestartRecord {
 /// The body of a slot with this restart record.
 pub fn encode_restart_record(value: &RestartRecord, into: &mut [u8])
     requires exact { length into.old ≡ slot_len }
-    requires keeps { Keeps restart_format value.now }
+    requires keeps { KeepsLimits restart_format value.now }
     ensures { Spells restart_format value.now into.new }
 {
     value.write(into);
@@ -253,7 +253,7 @@ pub fn decode_restart_record(bytes: &[u8]) -> Option<RestartRecord>
 /// The bytes of one entry.
 pub fn encode_snapshot_entry(value: &SnapshotEntry, into: &mut [u8])
     requires exact { length into.old ≡ 32 }
-    requires keeps { Keeps snapshot_format value.now }
+    requires keeps { KeepsLimits snapshot_format value.now }
     ensures { Spells snapshot_format value.now into.new }
 {
     value.write(into);

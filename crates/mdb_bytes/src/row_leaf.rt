@@ -2,7 +2,7 @@
 ghost use Rattle.std.specs.Prelude.{◌≡◌, ◌+◌, ◌≤◌, ℕ, List, ◌↔◌, length, IsTrue, None, MatchOption, IfSome};
 ghost use Rattle.mdb_bytes.specs.Fields.{Spells};
 ghost use Rattle.mdb_bytes.specs.TablePages.{Row, RowLeaf, row_format, row_leaf_format, longest_value};
-ghost use Rattle.mdb_bytes.specs.EntryPages.{row_layout, BeginsWith, IsRun};
+ghost use Rattle.mdb_bytes.specs.EntryPages.{row_layout, BeginsWith, IsEntryRun};
 ghost use Rattle.mdb_bytes.specs.EntryHeads.{row_head_in, KeepsRowHead};
 ghost use Rattle.mdb_bytes.specs.PageEntries.{FindsEntry, IsRowEntry};
 
@@ -41,7 +41,7 @@ fn is_kept(head: RowHead) -> bool
     head.key_len >= 1 && head.key_len <= 256 && head.value_len <= 1500 && head.zero == 0
 }
 
-// The key of the row at the front, and what stands behind the row; none where the bytes begin with
+// The key of the row at the front, and what stands after the row; none where the bytes begin with
 // no row.
 fn first_row(bytes: &[u8]) -> Option<(&[u8], &[u8])>
     ensures { MatchOption result
@@ -70,7 +70,7 @@ fn first_row(bytes: &[u8]) -> Option<(&[u8], &[u8])>
 // Whether the bytes are so many rows by ascending key, and these are their slots.
 fn are_rows(rows: &[u8], slots: &[u8], count: usize) -> bool
     requires { length rows.now ≤ 8128 }
-    ensures { IsTrue result ↔ IsRun (row_layout longest_value) None count 64 rows.now slots.now }
+    ensures { IsTrue result ↔ IsEntryRun (row_layout longest_value) None count 64 rows.now slots.now }
 {
     let mut rest = rows;
     let mut left = slots;
@@ -116,13 +116,13 @@ pub fn check_row_leaf(bytes: &[u8]) -> bool
 /// The row of a row leaf with this number, counted from 0; none where there are no more rows. Its
 /// slot tells its place. Values may have any length. Of bytes that are no row leaf it is only known
 /// that the places lie within them.
-pub fn row_leaf_entry(bytes: &[u8], i: usize) -> Option<RowLeafEntry>
+pub fn row_leaf_entry(bytes: &[u8], index: usize) -> Option<RowLeafEntry>
     ensures entry { (longest : ℕ) → (v : RowLeaf) → Spells (row_leaf_format longest) v bytes.now
-        → FindsEntry (IsRowEntry bytes.now) v.rows i result }
+        → FindsEntry (IsRowEntry bytes.now) v.rows index result }
     ensures within { IfSome result (λ e. (e.key.0 + e.key.1 ≤ length bytes.now)
         × (e.value.0 + e.value.1 ≤ length bytes.now)) }
 {
-    let Some((place, front)) = entry_front(bytes, i) else {
+    let Some((place, front)) = entry_front(bytes, index) else {
         return None;
     };
     if front.len() < 6 {

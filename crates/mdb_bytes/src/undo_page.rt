@@ -1,9 +1,9 @@
 //! Undo pages: rows as they were before open transactions changed them.
 ghost use Rattle.std.specs.Prelude.{◌≡◌, ◌+◌, ◌-◌, ◌<◌, ◌≤◌, ◌⊎◌, ◌^◌, ℕ, List, [], ◌↔◌, length, drop, IsTrue, None, MatchOption, IfSome};
-ghost use Rattle.mdb_bytes.specs.Fields.{Spells, number_end};
+ghost use Rattle.mdb_bytes.specs.Fields.{Spells, number_limit};
 ghost use Rattle.mdb_bytes.specs.TablePages.{longest_value};
 ghost use Rattle.mdb_bytes.specs.UndoPages.{UndoEntry, UndoPage, undo_entry_format, undo_page_format};
-ghost use Rattle.mdb_bytes.specs.EntryPages.{undo_layout, BeginsWith, IsRun};
+ghost use Rattle.mdb_bytes.specs.EntryPages.{undo_layout, BeginsWith, IsEntryRun};
 ghost use Rattle.mdb_bytes.specs.EntryHeads.{undo_head_in, HasWholeUndo};
 ghost use Rattle.mdb_bytes.specs.PageEntries.{FindsEntry, IsUndoEntry, SkipsUndo, undo_entry_at};
 
@@ -59,7 +59,7 @@ fn has_kept_lengths(head: UndoHead) -> bool
 
 fn has_kept_numbers(head: UndoHead) -> bool
     ensures { IsTrue result ↔ (((1 ≤ head.table) × (head.table ≤ 500)) × (head.zero ≡ 0)
-        × ((1 ≤ head.number) × (head.number < number_end))) }
+        × ((1 ≤ head.number) × (head.number < number_limit))) }
 {
     head.table >= 1
         && head.table <= 500
@@ -92,7 +92,7 @@ fn behind(bytes: &[u8], head: UndoHead) -> &[u8]
         .1
 }
 
-// What stands behind the entry at the front; none where the bytes begin with no entry.
+// What stands after the entry at the front; none where the bytes begin with no entry.
 fn behind_first(bytes: &[u8]) -> Option<&[u8]>
     ensures { MatchOption result
         ((v : UndoEntry) → (rest : List ℕ)
@@ -114,7 +114,7 @@ fn behind_first(bytes: &[u8]) -> Option<&[u8]>
 
 // Whether the bytes are so many entries.
 fn are_entries(entries: &[u8], count: usize) -> bool
-    ensures { IsTrue result ↔ IsRun (undo_layout longest_value) None count 64 entries.now [] }
+    ensures { IsTrue result ↔ IsEntryRun (undo_layout longest_value) None count 64 entries.now [] }
 {
     let mut rest = entries;
     for _ in 0..count {
@@ -147,12 +147,12 @@ pub fn check_undo_page(bytes: &[u8]) -> bool
     are_entries(page.entries, page.head.count as usize)
 }
 
-// What stands behind the first n entries.
-fn skip(bytes: &[u8], n: usize) -> Option<&[u8]>
-    ensures { SkipsUndo bytes.now n result }
+// What stands after the first n entries.
+fn skip(bytes: &[u8], count: usize) -> Option<&[u8]>
+    ensures { SkipsUndo bytes.now count result }
 {
     let mut rest = bytes;
-    for _ in 0..n {
+    for _ in 0..count {
         let Some(head) = whole_head(rest) else {
             return None;
         };
@@ -178,20 +178,20 @@ fn entry_of(place: usize, head: UndoHead) -> UndoPageEntry
 /// The entry of an undo page with this number, counted from 0; none where there are no more. Each
 /// call goes over the entries in front. Values may have any length. Of bytes that are no undo page
 /// it is only known that the places lie within them.
-pub fn undo_page_entry(bytes: &[u8], i: usize) -> Option<UndoPageEntry>
+pub fn undo_page_entry(bytes: &[u8], index: usize) -> Option<UndoPageEntry>
     ensures entry { (longest : ℕ) → (v : UndoPage) → Spells (undo_page_format longest) v bytes.now
-        → FindsEntry (IsUndoEntry bytes.now) v.entries i result }
+        → FindsEntry (IsUndoEntry bytes.now) v.entries index result }
     ensures within { IfSome result (λ e. (e.key.0 + e.key.1 ≤ length bytes.now)
         × (e.before.0 + e.before.1 ≤ length bytes.now)) }
 {
     if bytes.len() < 64 {
         return None;
     }
-    if i >= u16_at(bytes, 8) as usize {
+    if index >= u16_at(bytes, 8) as usize {
         return None;
     }
     let body = bytes.split_at(64).1;
-    let Some(rest) = skip(body, i) else {
+    let Some(rest) = skip(body, index) else {
         return None;
     };
     let Some(head) = whole_head(rest) else {

@@ -5,12 +5,12 @@ use Rattle.std.proofs.lemmas.Bool.{cond-true, le-leb}
 use Rattle.mdb_model.specs.declared.fault.Device.{Device}
 use Rattle.mdb_model.specs.Images.{Image, size_of, byte_at, bytes_of}
 use Rattle.mdb_host.specs.Disk.{Has}
-use Rattle.mdb_host.specs.Memory.{over}
+use Rattle.mdb_host.specs.Memory.{written_over}
 
-pub over_fits : (at : ℕ) (bytes old : List ℕ) (o : Option (List ℕ)) → o ≡ Some old → at + length bytes ≤ length old → over at bytes o ≡ Some (take at old ++ bytes ++ drop (at + length bytes) old)
-over_fits at bytes old o is fits = ap (over at bytes) is ∙ cond-true (nat_le (at + length bytes) (length old)) (Some (take at old ++ bytes ++ drop (at + length bytes) old)) (Some old) (le-leb (at + length bytes) (length old) fits)
+pub over_fits : (at : ℕ) (bytes old : List ℕ) (o : Option (List ℕ)) → o ≡ Some old → at + length bytes ≤ length old → written_over at bytes o ≡ Some (take at old ++ bytes ++ drop (at + length bytes) old)
+over_fits at bytes old o is fits = ap (written_over at bytes) is ∙ cond-true (nat_le (at + length bytes) (length old)) (Some (take at old ++ bytes ++ drop (at + length bytes) old)) (Some old) (le-leb (at + length bytes) (length old) fits)
 
-pub over_has : (at : ℕ) (bytes : List ℕ) (o : Option (List ℕ)) (size : ℕ) → size_of o ≡ Some size → at + length bytes ≤ size → (i : ℕ) → i < length bytes → byte_at (over at bytes o) (at + i) ≡ get_or bytes i 0
+pub over_has : (at : ℕ) (bytes : List ℕ) (o : Option (List ℕ)) (size : ℕ) → size_of o ≡ Some size → at + length bytes ≤ size → (i : ℕ) → i < length bytes → byte_at (written_over at bytes o) (at + i) ≡ get_or bytes i 0
 over_has at bytes None size is le i lt = cc
 over_has at bytes (Some old) size is le i lt =
     let e : length old ≡ size = cc in

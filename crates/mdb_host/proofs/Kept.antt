@@ -5,12 +5,12 @@ use Rattle.std.proofs.lemmas.Bool.{cases_lt}
 use Rattle.std.specs.declared.alloc.Global.{Global}
 use Rattle.mdb_model.specs.declared.fault.Device.{Device}
 use Rattle.mdb_model.specs.Images.{Image, byte_at}
-use Rattle.mdb_host.specs.Disk.{Keeps, Calls, Agree, Torn, Made, Removed, Synced, IsWithin, Has, Says, Disk}
+use Rattle.mdb_host.specs.Disk.{Keeps, Calls, Agree, Torn, Creates, Removes, Synced, IsWithin, Has, Says, Disk}
 use Rattle.mdb_host.specs.Fresh.{IsFresh}
 use Rattle.mdb_host.specs.declared.call.Call.{Call}
 use Rattle.mdb_host.specs.declared.call.Range.{Range}
 use Rattle.mdb_host.specs.declared.call.Call.TheVariants.{Wrote, Tore, Synced as SyncedCall, Made as MadeCall, Removed as RemovedCall, Said, Idle}
-use Rattle.mdb_host.specs.Memory.{RangeOf, KeptOrNot, ToreOrNot, SaidOrNot, Shape, after, shape, at_first, disk_of, over, put, with_device, zeros}
+use Rattle.mdb_host.specs.Memory.{RangeOf, KeptOrNot, ToreOrNot, SaidOrNot, Shape, after, shape, at_first, disk_of, written_over, put, with_device, zeros}
 use Rattle.mdb_host.specs.MemoryLaws.{torn_put, torn_same, put_here, with_here, with_other}
 use Rattle.mdb_host.proofs.Moments.{keeps_all}
 use Rattle.mdb_host.proofs.Bytes.{over_has}
@@ -171,39 +171,39 @@ pub wrote_has : (start : Image) (calls calls2 : List Call) (d : Device) (at : �
     → IsWithin (disk_of start calls).seen d at (length from) → Has (disk_of start calls2).seen d at from
 wrote_has start calls calls2 d at from r range is within i lt =
     let seen = (shape calls (at_first start)).seen in
-    let new_is : (disk_of start calls2).seen d ≡ over at from (seen d) = (λ i. wrote_seen start calls calls2 d at from r range is i d) ∙ put_here d at from seen in
+    let new_is : (disk_of start calls2).seen d ≡ written_over at from (seen d) = (λ i. wrote_seen start calls calls2 d at from r range is i d) ∙ put_here d at from seen in
     ap (λ o. byte_at o (at + i)) new_is ∙ over_has at from (seen d) within.0 within.1 within.2 i lt
 
-made_step : (d : Device) (pages : ℕ) (old new : Image) → Agree (with_device d (Some (zeros pages)) old) new → Made d (8192 * pages) old new
+made_step : (d : Device) (pages : ℕ) (old new : Image) → Agree (with_device d (Some (zeros pages)) old) new → Creates d (8192 * pages) old new
 made_step d pages old new is = record {
   others = λ e other. is e ∙ with_other d e (Some (zeros pages)) old other;
   here = inr (is d ∙ with_here d (Some (zeros pages)) old);
 }
 
-pub made_none : (d : Device) (n : ℕ) (image : Image) → Made d n image image
+pub made_none : (d : Device) (n : ℕ) (image : Image) → Creates d n image image
 made_none d n image = record { others = λ e other. refl; here = inl refl }
 
-pub made_calls : (start : Image) (calls calls2 : List Call) (d : Device) (pages : ℕ) → calls2 ≡ calls ++ MadeCall d pages ∷ [] → Calls (disk_of start calls) (disk_of start calls2) (Made d (8192 * pages))
+pub made_calls : (start : Image) (calls calls2 : List Call) (d : Device) (pages : ℕ) → calls2 ≡ calls ++ MadeCall d pages ∷ [] → Calls (disk_of start calls) (disk_of start calls2) (Creates d (8192 * pages))
 made_calls start calls calls2 d pages is =
     let seen = (shape calls (at_first start)).seen in
-    pushed_calls start calls calls2 (MadeCall d pages) is (Made d (8192 * pages)) (made_none d (8192 * pages)) (λ image left. (left.0, left.1, made_step d pages left.0 image left.2)) refl (made_step d pages seen (with_device d (Some (zeros pages)) seen) (λ e. refl))
+    pushed_calls start calls calls2 (MadeCall d pages) is (Creates d (8192 * pages)) (made_none d (8192 * pages)) (λ image left. (left.0, left.1, made_step d pages left.0 image left.2)) refl (made_step d pages seen (with_device d (Some (zeros pages)) seen) (λ e. refl))
 
 pub made_seen : (start : Image) (calls calls2 : List Call) (d : Device) (pages : ℕ) → calls2 ≡ calls ++ MadeCall d pages ∷ [] → (disk_of start calls2).seen d ≡ Some (zeros pages)
 made_seen start calls calls2 d pages is = (λ i. seen_is start calls calls2 (MadeCall d pages) is i d) ∙ with_here d (Some (zeros pages)) (shape calls (at_first start)).seen
 
-removed_step : (d : Device) (old new : Image) → Agree (with_device d None old) new → Removed d old new
+removed_step : (d : Device) (old new : Image) → Agree (with_device d None old) new → Removes d old new
 removed_step d old new is = record {
   others = λ e other. is e ∙ with_other d e None old other;
   here = inr (is d ∙ with_here d None old);
 }
 
-pub removed_none : (d : Device) (image : Image) → Removed d image image
+pub removed_none : (d : Device) (image : Image) → Removes d image image
 removed_none d image = record { others = λ e other. refl; here = inl refl }
 
-pub removed_calls : (start : Image) (calls calls2 : List Call) (d : Device) → calls2 ≡ calls ++ RemovedCall d ∷ [] → Calls (disk_of start calls) (disk_of start calls2) (Removed d)
+pub removed_calls : (start : Image) (calls calls2 : List Call) (d : Device) → calls2 ≡ calls ++ RemovedCall d ∷ [] → Calls (disk_of start calls) (disk_of start calls2) (Removes d)
 removed_calls start calls calls2 d is =
     let seen = (shape calls (at_first start)).seen in
-    pushed_calls start calls calls2 (RemovedCall d) is (Removed d) (removed_none d) (λ image left. (left.0, left.1, removed_step d left.0 image left.2)) refl (removed_step d seen (with_device d None seen) (λ e. refl))
+    pushed_calls start calls calls2 (RemovedCall d) is (Removes d) (removed_none d) (λ image left. (left.0, left.1, removed_step d left.0 image left.2)) refl (removed_step d seen (with_device d None seen) (λ e. refl))
 
 pub removed_seen : (start : Image) (calls calls2 : List Call) (d : Device) → calls2 ≡ calls ++ RemovedCall d ∷ [] → (disk_of start calls2).seen d ≡ None
 removed_seen start calls calls2 d is = (λ i. seen_is start calls calls2 (RemovedCall d) is i d) ∙ with_here d None (shape calls (at_first start)).seen

@@ -1,4 +1,5 @@
 pub mod Moments
+pub mod Reading
 pub mod Picked
 pub mod Slots
 pub mod Bytes

@@ -4,7 +4,7 @@ use Rattle.std.proofs.lemmas.Bool.{cases_lt}
 use Rattle.std.specs.Prelude.{Result, Ok, Err, OnOk}
 use Rattle.mdb_model.specs.declared.fault.Device.{Device}
 use Rattle.mdb_model.specs.Images.{Image, size_of, byte_at}
-use Rattle.mdb_host.specs.Disk.{Disk, Keeps, Goes, Runs, Says, Agree, Torn, Synced, Has}
+use Rattle.mdb_host.specs.Disk.{Disk, Keeps, Goes, HoldsThroughout, Says, Agree, Torn, Synced, Has}
 
 abbrev pub Step : Type 1
 Step = Image → Image → Type 0
@@ -73,7 +73,7 @@ widen old new narrow wide goes to = record {
 }
 
 -- a run that speaks of what was said: its start
-pub run_starts : (disk : Disk) (holds : Image → List ℕ → Type 0) → ((image : Image) → disk.may_leave disk.now image → holds image (disk.said disk.now)) → Runs disk disk holds
+pub run_starts : (disk : Disk) (holds : Image → List ℕ → Type 0) → ((image : Image) → disk.may_leave disk.now image → holds image (disk.said disk.now)) → HoldsThroughout disk disk holds
 run_starts disk holds here = record {
   keeps = keeps_all disk;
   each = λ t image from to left.
@@ -82,9 +82,9 @@ run_starts disk holds here = record {
 }
 
 -- some calls on devices more
-pub run_goes : (old mid new : Disk) (holds : Image → List ℕ → Type 0) (step : Step) → Runs old mid holds → Goes mid new step
+pub run_goes : (old mid new : Disk) (holds : Image → List ℕ → Type 0) (step : Step) → HoldsThroughout old mid holds → Goes mid new step
     → ((a b : Image) → mid.may_leave mid.now a → step a b → holds b (mid.said mid.now))
-    → Runs old new holds
+    → HoldsThroughout old new holds
 run_goes old mid new holds step run goes to = record {
   keeps = keeps_on old mid new run.keeps goes.keeps;
   each = each;
@@ -99,9 +99,9 @@ run_goes old mid new holds step run goes to = record {
     ]
 
 -- a text more
-pub run_says : (old mid new : Disk) (holds : Image → List ℕ → Type 0) (text : List ℕ) → Runs old mid holds → Says mid new text
+pub run_says : (old mid new : Disk) (holds : Image → List ℕ → Type 0) (text : List ℕ) → HoldsThroughout old mid holds → Says mid new text
     → ((a b : Image) → mid.may_leave mid.now a → Agree a b → holds b (new.said new.now))
-    → Runs old new holds
+    → HoldsThroughout old new holds
 run_says old mid new holds text run says to = record {
   keeps = keeps_on old mid new run.keeps says.keeps;
   each = each;
@@ -125,6 +125,14 @@ onward old mid new step trans one two = chain old mid new step step step one two
 -- a call that changes no device, after a run
 pub calmly : (old mid new : Disk) (step : Step) → ((a b c : Image) → step a b → Agree b c → step a c) → Goes old mid step → Goes mid new Agree → Goes old new step
 calmly old mid new step after one two = chain old mid new step Agree step one two (λ a b left s. s) (λ a b c left s left2 s2. after a b c s s2)
+
+-- images that agree one after another
+pub agree_twice : (a b c : Image) → Agree a b → Agree b c → Agree a c
+agree_twice a b c one two e = two e ∙ one e
+
+-- two calls that change no device
+pub agree_on : (d0 d1 d2 : Disk) → Goes d0 d1 Agree → Goes d1 d2 Agree → Goes d0 d2 Agree
+agree_on d0 d1 d2 one two = onward d0 d1 d2 Agree agree_twice one two
 
 pub torn_agree : (d : Device) (at n : ℕ) (a b c : Image) → Torn d at n a b → Agree b c → Torn d at n a c
 torn_agree d at n a b c torn same = record {
@@ -156,9 +164,9 @@ on_ok (Ok v) P Q to p = to p
 on_ok (Err e) P Q to p = tt
 
 -- one run after another
-pub run_runs : (old mid new : Disk) (holds more : Image → List ℕ → Type 0) → Runs old mid holds → Runs mid new more
+pub run_runs : (old mid new : Disk) (holds more : Image → List ℕ → Type 0) → HoldsThroughout old mid holds → HoldsThroughout mid new more
     → ((image : Image) (out : List ℕ) → more image out → holds image out)
-    → Runs old new holds
+    → HoldsThroughout old new holds
 run_runs old mid new holds more one two to = record {
   keeps = keeps_on old mid new one.keeps two.keeps;
   each = each;
@@ -177,7 +185,7 @@ same_image a b same = sym (λ i e. same e i)
 -- a run of calls on devices
 pub runs_of_goes : (old new : Disk) (holds : Image → List ℕ → Type 0) (step : Step) → Goes old new step
     → ((a b : Image) → old.may_leave old.now a → step a b → holds b (old.said old.now))
-    → Runs old new holds
+    → HoldsThroughout old new holds
 runs_of_goes old new holds step goes to = record {
   keeps = goes.keeps;
   each = λ t image from upto left.

@@ -8,11 +8,12 @@ use Rattle.mdb_host.specs.Disk.{SameSizes}
 use Rattle.mdb_host.specs.declared.call.Call.{Call}
 use Rattle.mdb_host.specs.declared.call.Range.{Range}
 use Rattle.mdb_host.specs.declared.call.Call.TheVariants.{Wrote, Tore, Synced, Made, Removed, Said, Idle}
-use Rattle.mdb_host.specs.Memory.{AllWhole, put, with_device, zeros, Shape, after, shape, settled, digit, by_digit, picked}
+use Rattle.mdb_host.specs.Memory.{AllWhole, put, with_device, zeros, Shape, after, shape, any_settles, digit, by_digit, picked}
 use Rattle.mdb_host.specs.MemoryLaws.{same_device, torn_put, torn_sizes, with_here, with_other}
 use Rattle.mdb_host.proofs.Picked.{torn_by_digit}
 
-same_length : (a b : Option (List ℕ)) → size_of a ≡ size_of b → length (bytes_of a) ≡ length (bytes_of b)
+-- devices of one size have as many bytes
+pub same_length : (a b : Option (List ℕ)) → size_of a ≡ size_of b → length (bytes_of a) ≡ length (bytes_of b)
 same_length None None is = refl
 same_length None (Some b) is = cc
 same_length (Some a) None is = cc
@@ -52,11 +53,11 @@ whole_shape (call ∷ calls) s whole = whole_shape calls (after call s) (whole_a
 pub whole_picked : (pick : ℕ) (calls : List Call) (k : ℕ) (image : Image) → AllWhole image → AllWhole (picked pick k calls image)
 whole_picked pick [] k image whole = whole
 whole_picked pick (Wrote r ∷ calls) k image whole =
-    cond_both (settled calls r.device) (picked pick k calls (put r.device r.at r.bytes.items image)) (picked pick (k + 1) calls (by_digit (digit pick k) r image)) AllWhole
+    cond_both (any_settles calls r.device) (picked pick k calls (put r.device r.at r.bytes.items image)) (picked pick (k + 1) calls (by_digit (digit pick k) r image)) AllWhole
     (λ is. whole_picked pick calls k (put r.device r.at r.bytes.items image) (whole_put r.device r.at r.bytes.items image whole))
     (λ out. whole_picked pick calls (k + 1) (by_digit (digit pick k) r image) (whole_by_digit (digit pick k) r image whole))
 whole_picked pick (Tore r ∷ calls) k image whole =
-    cond_both (settled calls r.device) (picked pick k calls image) (picked pick (k + 1) calls (by_digit (digit pick k) r image)) AllWhole
+    cond_both (any_settles calls r.device) (picked pick k calls image) (picked pick (k + 1) calls (by_digit (digit pick k) r image)) AllWhole
     (λ is. whole_picked pick calls k image whole)
     (λ out. whole_picked pick calls (k + 1) (by_digit (digit pick k) r image) (whole_by_digit (digit pick k) r image whole))
 whole_picked pick (Synced d ∷ calls) k image whole = whole_picked pick calls k image whole

@@ -34,7 +34,7 @@ pub record Disk : Type 1 where
   -- the output at that moment
   pub said : ℕ → List ℕ
 
--- Time went on from old to new, and what was told of a moment up to old stays.
+-- Time went on from old to new, and what was known of a moment up to old stays.
 pub record Keeps (old new : Disk) : Type 0 where
   pub later : old.now ≤ new.now
   pub kept : (t : ℕ) (image : Image) → t ≤ old.now → old.may_leave t image → new.may_leave t image
@@ -58,7 +58,7 @@ Arrives old new step =
 
 -- at each moment since old, each image that a crash may leave has `holds` together with what was
 -- said by then
-pub record Runs (old new : Disk) (holds : Image → List ℕ → Type 0) : Type 0 where
+pub record HoldsThroughout (old new : Disk) (holds : Image → List ℕ → Type 0) : Type 0 where
   pub keeps : Keeps old new
   pub each : (t : ℕ) (image : Image) → old.now ≤ t → t ≤ new.now → new.may_leave t image
       → holds image (new.said t)
@@ -79,12 +79,12 @@ pub record Says (old new : Disk) (text : List ℕ) : Type 0 where
   pub said : (n : ℕ) × (n ≤ length text) × (new.said new.now ≡ old.said old.now ++ take n text)
 
 -- the device comes to be, with n zero bytes, or stays as it was
-pub record Made (d : Device) (n : ℕ) (old new : Image) : Type 0 where
+pub record Creates (d : Device) (n : ℕ) (old new : Image) : Type 0 where
   pub others : AgreeBut d old new
   pub here : (new d ≡ old d) ⊎ (new d ≡ Some (replicate n 0))
 
 -- the device goes, or stays as it was
-pub record Removed (d : Device) (old new : Image) : Type 0 where
+pub record Removes (d : Device) (old new : Image) : Type 0 where
   pub others : AgreeBut d old new
   pub here : (new d ≡ old d) ⊎ (new d ≡ None)
 
@@ -104,6 +104,6 @@ abbrev pub IsThere : Image → Device → Type 0
 IsThere image d = (size : ℕ) × (size_of (image d) ≡ Some size)
 
 -- the number of whole pages
-abbrev pub pages_of : Option (List ℕ) → Option ℕ
-pages_of None = None
-pages_of (Some bytes) = Some (length bytes / 8192)
+abbrev pub page_count : Option (List ℕ) → Option ℕ
+page_count None = None
+page_count (Some bytes) = Some (length bytes / 8192)

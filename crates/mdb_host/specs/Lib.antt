@@ -5,4 +5,5 @@ pub mod MemoryLaws
 pub mod Picks
 pub mod Pieces
 pub mod Places
+pub mod Reads
 pub mod Script

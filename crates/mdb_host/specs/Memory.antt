@@ -36,14 +36,14 @@ abbrev pub image_of : List (Option (Vec ℕ Global)) → Image
 image_of slots d = held (slice_get slots (code d))
 
 -- these bytes over a place of a device, where they have room
-abbrev pub over : ℕ → List ℕ → Option (List ℕ) → Option (List ℕ)
-over at bytes None = None
-over at bytes (Some old) =
+abbrev pub written_over : ℕ → List ℕ → Option (List ℕ) → Option (List ℕ)
+written_over at bytes None = None
+written_over at bytes (Some old) =
     cond (nat_le (at + length bytes) (length old))
     (Some (take at old ++ bytes ++ drop (at + length bytes) old)) (Some old)
 
 abbrev pub put : Device → ℕ → List ℕ → Image → Image
-put d at bytes image e = cond (code e == code d) (over at bytes (image e)) (image e)
+put d at bytes image e = cond (code e == code d) (written_over at bytes (image e)) (image e)
 
 -- the device holds this, or is absent
 abbrev pub with_device : Device → Option (List ℕ) → Image → Image
@@ -126,9 +126,9 @@ settles (Said text) e = false
 settles Idle e = false
 
 -- the same of some call of these
-abbrev pub settled : List Call → Device → Bool
-settled [] e = false
-settled (call ∷ calls) e = settles call e || settled calls e
+abbrev pub any_settles : List Call → Device → Bool
+any_settles [] e = false
+any_settles (call ∷ calls) e = settles call e || any_settles calls e
 
 -- digit k of the pick in base 4, over and over after the 32nd
 abbrev pub digit : ℕ → ℕ → ℕ
@@ -149,10 +149,10 @@ by_digit n r image =
 abbrev pub picked : ℕ → ℕ → List Call → Image → Image
 picked pick k [] image = image
 picked pick k (Wrote r ∷ calls) image =
-    cond (settled calls r.device) (picked pick k calls (put r.device r.at r.bytes.items image))
+    cond (any_settles calls r.device) (picked pick k calls (put r.device r.at r.bytes.items image))
     (picked pick (k + 1) calls (by_digit (digit pick k) r image))
 picked pick k (Tore r ∷ calls) image =
-    cond (settled calls r.device) (picked pick k calls image)
+    cond (any_settles calls r.device) (picked pick k calls image)
     (picked pick (k + 1) calls (by_digit (digit pick k) r image))
 picked pick k (Synced d ∷ calls) image = picked pick k calls image
 picked pick k (Made d pages ∷ calls) image =

@@ -9,7 +9,7 @@ use Rattle.mdb_model.specs.Images.{Image, size_of, byte_at}
 use Rattle.mdb_host.specs.Disk.{Torn, Outside, Agree, SameSizes}
 use Rattle.mdb_host.specs.declared.call.Call.{Call}
 use Rattle.mdb_host.specs.declared.call.Call.TheVariants.{Wrote, Tore, Synced, Made, Removed, Said, Idle}
-use Rattle.mdb_host.specs.Memory.{code, over, put, with_device, zeros, Shape, after, shape, at_first, disk_of}
+use Rattle.mdb_host.specs.Memory.{code, written_over, put, with_device, zeros, Shape, after, shape, at_first, disk_of}
 
 pub code_is : (a b : Device) → code a ≡ code b → a ≡ b
 code_is Log Log same = refl
@@ -58,7 +58,7 @@ joined_outside at bytes old k fits (inr above) =
     ∙ ap (λ (n : ℕ). get_or old n 0) e
 
 pub over_size : (at : ℕ) (bytes : List ℕ) (o : Option (List ℕ))
-    → size_of (over at bytes o) ≡ size_of o
+    → size_of (written_over at bytes o) ≡ size_of o
 over_size at bytes None = refl
 over_size at bytes (Some old) =
     cond_both (nat_le (at + length bytes) (length old))
@@ -67,7 +67,7 @@ over_size at bytes (Some old) =
     (joined_length at bytes old (leb-true _ _ yes))) (λ no. refl)
 
 pub over_outside : (at : ℕ) (bytes : List ℕ) (o : Option (List ℕ)) (k : ℕ)
-    → Outside at (length bytes) k → byte_at (over at bytes o) k ≡ byte_at o k
+    → Outside at (length bytes) k → byte_at (written_over at bytes o) k ≡ byte_at o k
 over_outside at bytes None k out = refl
 over_outside at bytes (Some old) k out =
     cond_both (nat_le (at + length bytes) (length old))
@@ -77,13 +77,14 @@ over_outside at bytes (Some old) k out =
 pub put_other : (d e : Device) (at : ℕ) (bytes : List ℕ) (image : Image) → (e ≡ d → ⊥)
     → put d at bytes image e ≡ image e
 put_other d e at bytes image other =
-    cond-false (code e == code d) (over at bytes (image e)) (image e)
+    cond-false (code e == code d) (written_over at bytes (image e)) (image e)
     (ne_eqb (code e) (code d) (λ is. other (code_is e d is)))
 
 pub put_here : (d : Device) (at : ℕ) (bytes : List ℕ) (image : Image)
-    → put d at bytes image d ≡ over at bytes (image d)
+    → put d at bytes image d ≡ written_over at bytes (image d)
 put_here d at bytes image =
-    cond-true (code d == code d) (over at bytes (image d)) (image d) (eq-eqb (code d) (code d) refl)
+    cond-true (code d == code d) (written_over at bytes (image d)) (image d)
+    (eq-eqb (code d) (code d) refl)
 
 pub with_other : (d e : Device) (now : Option (List ℕ)) (image : Image) → (e ≡ d → ⊥)
     → with_device d now image e ≡ image e

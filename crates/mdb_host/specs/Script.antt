@@ -9,7 +9,7 @@ pub record Takes (n : ℕ) (old new into : List ℕ) : Type 0 where
   pub rest : new ≡ drop n old
   pub ends : n ≡ 0 → 0 < length into → old ≡ []
 
--- the same where it is told what is left, and it stays untold where it is not
+-- the same where what is left is known, and it stays unknown where it is not
 abbrev pub TakesFrom : Option (List ℕ) → Option (List ℕ) → ℕ → List ℕ → Type 0
 TakesFrom old new n into =
     MatchOption old (new ≡ None) (λ left. (rest : List ℕ) × (new ≡ Some rest)

@@ -1,6 +1,6 @@
 //! What a host in memory keeps of each call.
 ghost use Rattle.std.specs.Prelude.{◌≡◌};
-ghost use Rattle.mdb_host.specs.Memory.{settles, settled};
+ghost use Rattle.mdb_host.specs.Memory.{settles, any_settles};
 
 use crate::devices::slot_of;
 use mdb_model::fault::Device;
@@ -43,7 +43,7 @@ pub fn is_settling(call: &Call, device: Device) -> bool
 
 /// The same of some call of these.
 pub fn is_settled(calls: &[Call], device: Device) -> bool
-    ensures { result ≡ settled calls.now device }
+    ensures { result ≡ any_settles calls.now device }
 {
     let mut left = calls;
     while let Some((call, later)) = left.split_first() {

@@ -2,7 +2,7 @@
 ghost use Rattle.std.specs.Prelude.{◌≡◌, ℕ, ◌<◌, ◌≤◌, length, take, drop, replicate, Option, Some, None, IfOk};
 ghost use Rattle.mdb_model.specs.Images.{bytes_of, size_of};
 ghost use Rattle.mdb_host.specs.Disk.{IsWithin};
-ghost use Rattle.mdb_host.specs.Memory.{code, content, image_of, over, put, with_device};
+ghost use Rattle.mdb_host.specs.Memory.{code, content, image_of, written_over, put, with_device};
 
 use mdb_model::fault::Device;
 use std::alloc::{AllocError, Global};
@@ -40,7 +40,7 @@ fn copy_slot(alloc: Global, slot: &Option<Vec<u8>>) -> Result<Option<Vec<u8>>, A
 
 // Bytes that have no room are left out.
 fn write_over(bytes: &mut Vec<u8>, at: u64, from: &[u8])
-    ensures { Some bytes.new.items ≡ over at from.now (Some bytes.old.items) }
+    ensures { Some bytes.new.items ≡ written_over at from.now (Some bytes.old.items) }
 {
     let at = at as usize;
     if from.len() <= bytes.len() && at <= bytes.len() - from.len() {

@@ -11,12 +11,12 @@ ghost use Rattle.mdb_host.specs.Disk.{
   Goes,
   Calls,
   Says,
-  Made,
-  Removed,
+  Creates,
+  Removes,
   Synced,
   IsWithin,
   IsThere,
-  pages_of,
+  page_count,
   SameSizes,
 };
 
@@ -40,7 +40,7 @@ pub trait Host {
 
     /// The pages of a device, of 8,192 bytes each, or `None` where it is absent.
     fn size(&self, device: Device) -> Option<u64>
-        ensures pages { tells → result ≡ pages_of ((disk self.now).seen device) }
+        ensures pages { tells → result ≡ page_count ((disk self.now).seen device) }
         ensures whole { tells → IfSome result (λ n. size_of ((disk self.now).seen device)
             ≡ Some (n * 8192)) };
 
@@ -78,7 +78,8 @@ pub trait Host {
     /// Makes a device that is absent, with zero bytes. After a failed call it is absent or there.
     fn make(&mut self, device: Device, pages: u32) -> Result<(), Failed>
         requires { tells → (disk self.old).seen device ≡ None }
-        ensures calls { tells → Calls (disk self.old) (disk self.new) (Made device (8192 * pages)) }
+        ensures calls { tells → Calls (disk self.old) (disk self.new)
+            (Creates device (8192 * pages)) }
         ensures made { OnOk result (tells
             → (disk self.new).seen device ≡ Some (replicate (8192 * pages) 0)) }
         ensures tick { OnOk result (tells → (disk self.new).now ≡ (disk self.old).now + 1) }
@@ -88,7 +89,7 @@ pub trait Host {
     /// Takes a device away. After a failed call it is there as it was, or absent.
     fn remove(&mut self, device: Device) -> Result<(), Failed>
         requires { tells → IsThere (disk self.old).seen device }
-        ensures calls { tells → Calls (disk self.old) (disk self.new) (Removed device) }
+        ensures calls { tells → Calls (disk self.old) (disk self.new) (Removes device) }
         ensures removed { OnOk result (tells → (disk self.new).seen device ≡ None) }
         ensures tick { OnOk result (tells → (disk self.new).now ≡ (disk self.old).now + 1) }
         ensures cause { HasCause (faults self.old) (faults self.new) result }

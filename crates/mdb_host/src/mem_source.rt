@@ -21,7 +21,7 @@ pub struct MemSource {
 }
 
 impl MemSource {
-    ghost use Rattle.mdb_host.specs.Pieces.{piece_of, fails_of, calls_of};
+    ghost use Rattle.mdb_host.specs.Pieces.{piece_of, source_fails_of, calls_of};
 
     fn holding(
         alloc: Global,
@@ -34,7 +34,7 @@ impl MemSource {
             ≡ Some bytes.now) }
         ensures faults { IfOk result (λ source. ⟦<MemSource as Source>⟧.faults source ≡ 0) }
         ensures piece { IfOk result (λ source. piece_of source ≡ piece) }
-        ensures fails { IfOk result (λ source. fails_of source ≡ fails.now) }
+        ensures fails { IfOk result (λ source. source_fails_of source ≡ fails.now) }
         ensures calls { IfOk result (λ source. calls_of source ≡ 0) }
     {
         let bytes = Vec::from_slice(alloc, bytes)?;
@@ -61,7 +61,7 @@ impl MemSource {
             ≡ Some bytes.now) }
         ensures faults { IfOk result (λ source. ⟦<MemSource as Source>⟧.faults source ≡ 0) }
         ensures piece { IfOk result (λ source. piece_of source ≡ piece) }
-        ensures fails { IfOk result (λ source. fails_of source ≡ fails.now) }
+        ensures fails { IfOk result (λ source. source_fails_of source ≡ fails.now) }
         ensures calls { IfOk result (λ source. calls_of source ≡ 0) }
     {
         match MemSource::holding(alloc, bytes, piece, fails) {
@@ -76,7 +76,7 @@ impl Source for MemSource {
     ghost use Rattle.std.specs.List.{list_any};
     ghost use Rattle.mdb_model.specs.Causes.{HasCause};
     ghost use Rattle.mdb_host.specs.Script.{TakesFrom};
-    ghost use Rattle.mdb_host.specs.Pieces.{left_of, faults_of, piece_of, fails_of, calls_of};
+    ghost use Rattle.mdb_host.specs.Pieces.{left_of, faults_of, piece_of, source_fails_of, calls_of};
 
     ghost left = { λ m. Some (drop m.taken m.bytes.items) };
 
@@ -92,9 +92,9 @@ impl Source for MemSource {
         ensures piece { IfOk result (λ n. n ≤ piece_of self.old) }
         ensures calls { calls_of self.new ≡ min (calls_of self.old + 1) (2 ^ 64 - 1) }
         ensures fails { IsErr result
-            ↔ IsTrue (list_any (λ number. number == calls_of self.new) (fails_of self.old)) }
+            ↔ IsTrue (list_any (λ number. number == calls_of self.new) (source_fails_of self.old)) }
         ensures same_piece { piece_of self.new ≡ piece_of self.old }
-        ensures same_fails { fails_of self.new ≡ fails_of self.old }
+        ensures same_fails { source_fails_of self.new ≡ source_fails_of self.old }
     {
         if self.plan.is_due() {
             return Err(rise(&mut self.faults));

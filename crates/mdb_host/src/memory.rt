@@ -155,8 +155,8 @@ impl Host for MemHost {
       Agree,
       Calls,
       Says,
-      Made,
-      Removed,
+      Creates,
+      Removes,
       Synced,
       IsWithin,
       IsThere,
@@ -252,7 +252,7 @@ impl Host for MemHost {
     fn make(&mut self, device: Device, pages: u32) -> Result<(), Failed>
         requires { (host_disk self.old).seen device ≡ None }
         ensures calls { Calls (host_disk self.old) (host_disk self.new)
-            (Made device (8192 * pages)) }
+            (Creates device (8192 * pages)) }
         ensures made { OnOk result
             ((host_disk self.new).seen device ≡ Some (replicate (8192 * pages) 0)) }
         ensures tick { OnOk result ((host_disk self.new).now ≡ (host_disk self.old).now + 1) }
@@ -276,7 +276,7 @@ impl Host for MemHost {
 
     fn remove(&mut self, device: Device) -> Result<(), Failed>
         requires { IsThere (host_disk self.old).seen device }
-        ensures calls { Calls (host_disk self.old) (host_disk self.new) (Removed device) }
+        ensures calls { Calls (host_disk self.old) (host_disk self.new) (Removes device) }
         ensures removed { OnOk result ((host_disk self.new).seen device ≡ None) }
         ensures tick { OnOk result ((host_disk self.new).now ≡ (host_disk self.old).now + 1) }
         ensures cause { HasCause (host_faults self.old) (host_faults self.new) result }

@@ -7,7 +7,7 @@ use mdb_model::fault::Failed;
 
 /// Bytes that come in pieces.
 pub trait Source {
-    /// The bytes that are left, where that is told.
+    /// The bytes that are left, where that is known.
     ghost left: { Self → Option (List ℕ) };
 
     /// How often a call has failed.

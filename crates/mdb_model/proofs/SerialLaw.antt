@@ -24,12 +24,12 @@ use Rattle.mdb_model.specs.Steps.{Facts, done, committed_by, has_changes, Fits}
 use Rattle.mdb_model.specs.Refusals.{refusal, medium_full}
 use Rattle.mdb_model.specs.Runs.{Line, TakenLine, Step, IsDone, IsRefused, AreOutcomes, AreAllOutcomes, outcomes, is_recover, restore_open, Entry, Stepped, Starved, Failed, FoundOut, Run}
 use Rattle.mdb_model.specs.Agreement.{IsSound}
-use Rattle.mdb_model.specs.Serial.{Told, lines_after, open_lines, AreAlone, IsSerial}
+use Rattle.mdb_model.specs.Serial.{AnsweredLine, lines_after, open_lines, AreAlone, IsSerial}
 use Rattle.mdb_model.proofs.SerialWorlds.{Holds-ended}
 use Rattle.mdb_model.proofs.SerialSteps.{HoldsOf, after_line, Step-holds}
 
 -- each world of a list holds beside the open lines
-abbrev AllHold : List World → (ℕ → List Told) → Type 0
+abbrev AllHold : List World → (ℕ → List AnsweredLine) → Type 0
 AllHold worlds lines = (w : World) → Contains worlds w → HoldsOf w lines
 
 -- the world that a step led from
@@ -88,7 +88,7 @@ module _ (reading : PageReading) where
         joined these others none also v there = ⊎_elim (none v) (also v) (Contains-append_cases these others v there)
 
   -- a line of a run keeps what holds of the worlds
-  Entry-holds : {old new : List World} {line : Line} {answer : Answer} (lines : ℕ → List Told) → Entry reading old line answer new → AllHold old lines → AllHold new (after_line lines line answer)
+  Entry-holds : {old new : List World} {line : Line} {answer : Answer} (lines : ℕ → List AnsweredLine) → Entry reading old line answer new → AllHold old lines → AllHold new (after_line lines line answer)
   Entry-holds {old} {new} {line} {answer} lines (Stepped steps) holds w there =
       let (before, at, step) = zip_back (λ v v'. Step reading v line answer v') old new w steps there in
       Step-holds reading before w answer lines (holds before at) line step
@@ -101,10 +101,10 @@ module _ (reading : PageReading) where
         alone_in w (suc k, inside, is) = absurd (omega (arith, inside))
 
 -- Before each line of a run stands what each line keeps: worlds, and what the lines before made of some lists
-module _ (reading : PageReading) (step : ℕ → List Told → TakenLine → List Told) (Fair : List World → (ℕ → List Told) → Type 0)
-    (keeps : (old : List World) (lines : ℕ → List Told) (entry : TakenLine) → Entry reading old entry.line entry.answer entry.worlds → Fair old lines → Fair entry.worlds (λ s. step s (lines s) entry)) where
+module _ (reading : PageReading) (step : ℕ → List AnsweredLine → TakenLine → List AnsweredLine) (Fair : List World → (ℕ → List AnsweredLine) → Type 0)
+    (keeps : (old : List World) (lines : ℕ → List AnsweredLine) (entry : TakenLine) → Entry reading old entry.line entry.answer entry.worlds → Fair old lines → Fair entry.worlds (λ s. step s (lines s) entry)) where
   -- the worlds before line k, which leads on from them, and what stands of them there
-  at_line : (old : List World) (run : List TakenLine) (lines : ℕ → List Told) (k : ℕ) (entry : TakenLine)
+  at_line : (old : List World) (run : List TakenLine) (lines : ℕ → List AnsweredLine) (k : ℕ) (entry : TakenLine)
       → Run reading old run → Fair old lines → slice_get run k ≡ Some entry
       → (before : List World) × Entry reading before entry.line entry.answer entry.worlds × Fair before (λ s. fold (step s) (lines s) (take k run))
   at_line old [] lines k entry goes fair is = cc
@@ -151,7 +151,7 @@ module _ (reading : PageReading) (before after : World) (session : Session) (ans
   commit_if changes = if changes then (plain (Committed (last before.history + 1)), committed_by before session.0) else (plain NothingToCommit, without_transaction before session.0)
 
   -- the lines of the session, with a commit that has a number
-  commit_law : (lines : List Told) (n : ℕ) → answer.reply ≡ Committed n → ((t : History) → t ≡ before.history → AreAlone lines (tables_of t))
+  commit_law : (lines : List AnsweredLine) (n : ℕ) → answer.reply ≡ Committed n → ((t : History) → t ≡ before.history → AreAlone lines (tables_of t))
       → Step reading before (Some (CommitWork session)) answer after → AreAlone lines (tables_of (cut after.history (n - 1)))
   commit_law lines n said told (facts, step) =
       by_test (has_changes before session.0) (not_refused facts (λ cause is. number_apart cause n (sym is ∙ said)) step) where
@@ -166,7 +166,7 @@ module _ (reading : PageReading) (before after : World) (session : Session) (ans
             cc other
 
   -- and with one that had nothing to commit
-  empty_law : (lines : List Told) → answer.reply ≡ NothingToCommit → ((t : History) → t ≡ before.history → AreAlone lines (tables_of t))
+  empty_law : (lines : List AnsweredLine) → answer.reply ≡ NothingToCommit → ((t : History) → t ≡ before.history → AreAlone lines (tables_of t))
       → Step reading before (Some (CommitWork session)) answer after → AreAlone lines (tables_of after.history)
   empty_law lines said told (facts, step) =
       by_test (has_changes before session.0) (not_refused facts (λ cause is. nothing_apart cause (sym is ∙ said)) step) where
@@ -189,8 +189,8 @@ module _ (reading : PageReading) where
         alone_in w (zero, inside, is) = is
         alone_in w (suc k, inside, is) = absurd (omega (arith, inside))
 
-  -- what a session was told holds on the present tables
-  told_now : (w : World) (lines : ℕ → List Told) (session : ℕ) → HoldsOf w lines → (t : History) → t ≡ w.history → AreAlone (lines session) (tables_of t)
+  -- what a session was answered holds on the present tables
+  told_now : (w : World) (lines : ℕ → List AnsweredLine) (session : ℕ) → HoldsOf w lines → (t : History) → t ≡ w.history → AreAlone (lines session) (tables_of t)
   told_now w lines session holds t is = subst (λ h. AreAlone (lines session) (tables_of h)) (sym is) ((holds.stands session).told (tables_of w.history) (λ p lock there covers. refl))
 
   -- worlds in which no session is there

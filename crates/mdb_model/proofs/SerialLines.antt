@@ -1,4 +1,4 @@
--- The open lines of a transaction, told as on other tables that are the same wherever the transaction has a lock.
+-- The open lines of a transaction, answered as on other tables that are the same wherever the transaction has a lock.
 --     Agree      two tables are the same at the places that locks cover
 --     StandsAlone      the lines of a transaction hold for all such tables
 --     StandsAlone-none, StandsAlone-kept      no lines; the same lines after a change of the tables elsewhere
@@ -18,7 +18,7 @@ use Rattle.mdb_model.specs.Worlds.{Transaction, Lock, ShareKey, ExclusiveKey, Sh
 use Rattle.mdb_model.specs.Sessions.{conflict}
 use Rattle.mdb_model.specs.Answers.{Answer, plain, row_reply}
 use Rattle.mdb_model.specs.Steps.{rows_of}
-use Rattle.mdb_model.specs.Serial.{Told, alone, after_alone, answer_alone, AreAlone}
+use Rattle.mdb_model.specs.Serial.{AnsweredLine, alone, after_alone, answer_alone, AreAlone}
 use Rattle.mdb_model.proofs.SerialPlaces.{same_place-itself, with_changes-agree, with_changes-push, remove-absent, rows_of-agree}
 
 -- the tables are the same wherever a change of a row would conflict with one of the locks
@@ -26,11 +26,11 @@ abbrev pub Agree : List Lock → Tables → Tables → Type 0
 Agree locks s t = (p : Place) (lock : Lock) → Contains locks lock → conflict (ExclusiveKey p) lock ≡ true → get s p ≡ get t p
 
 -- the commands of lines
-abbrev pub commands : List Told → List Command
+abbrev pub commands : List AnsweredLine → List Command
 commands lines = map (λ told. told.0) lines
 
 -- their answers
-abbrev pub answers : List Told → List Answer
+abbrev pub answers : List AnsweredLine → List Answer
 answers lines = map (λ told. told.1) lines
 
 -- the tables after lines that nobody else sees
@@ -40,7 +40,7 @@ all_alone (line ∷ lines) tables = all_alone lines (after_alone line tables)
 
 -- on all tables that agree with the present ones, the lines alone are answered as they were, and leave what the
 -- transaction's changes leave
-pub record StandsAlone (x : Transaction) (present : Tables) (lines : List Told) : Type 0 where
+pub record StandsAlone (x : Transaction) (present : Tables) (lines : List AnsweredLine) : Type 0 where
   pub told : (t : Tables) → Agree x.locks present t → AreAlone lines t
   pub seen : (t : Tables) → Agree x.locks present t → all_alone (commands lines) t ≡ with_changes x.changes t
 
@@ -59,7 +59,7 @@ pub StandsAlone-none : (x : Transaction) (present : Tables) → x.changes ≡ []
 StandsAlone-none x present none = record { told = λ t same. refl; seen = λ t same. ap (λ changes. with_changes changes t) (sym none) }
 
 -- a change of the tables where the transaction has no lock
-pub StandsAlone-kept : (x : Transaction) (present later : Tables) (lines : List Told) → Agree x.locks present later → StandsAlone x present lines → StandsAlone x later lines
+pub StandsAlone-kept : (x : Transaction) (present later : Tables) (lines : List AnsweredLine) → Agree x.locks present later → StandsAlone x present lines → StandsAlone x later lines
 StandsAlone-kept x present later lines kept stands = record {
   told = λ t same. stands.told t (λ p lock there covers. kept p lock there covers ∙ same p lock there covers);
   seen = λ t same. stands.seen t (λ p lock there covers. kept p lock there covers ∙ same p lock there covers);
@@ -69,7 +69,7 @@ StandsAlone-kept x present later lines kept stands = record {
 agree-fewer : (lock : Lock) (locks : List Lock) (s t : Tables) → Agree (lock ∷ locks) s t → Agree locks s t
 agree-fewer lock locks s t same p other (k, inside, is) covers = same p other (suc k, omega (arith, inside), is) covers
 
-module _ (x : Transaction) (changes : List Change) (lock : Lock) (present : Tables) (lines : List Told) (line : Command) (answer : Answer) where
+module _ (x : Transaction) (changes : List Change) (lock : Lock) (present : Tables) (lines : List AnsweredLine) (line : Command) (answer : Answer) where
   -- the transaction with one more lock
   abbrev after : Transaction
   after = record { changes = changes; locks = lock ∷ x.locks }
@@ -82,16 +82,16 @@ module _ (x : Transaction) (changes : List Change) (lock : Lock) (present : Tabl
     told : (t : Tables) → Agree (lock ∷ x.locks) present t → AreAlone (lines ++ (line, answer) ∷ []) t
     told t same =
         let before = agree-fewer lock x.locks present t same in
-        map-append (λ (told : Told). told.1) lines ((line, answer) ∷ [])
+        map-append (λ (told : AnsweredLine). told.1) lines ((line, answer) ∷ [])
         ∙ ap (λ all. all ++ answer ∷ []) (stands.told t before)
         ∙ ap (λ a. alone (commands lines) t ++ a ∷ []) (answered t same ∙ ap (answer_alone line) (sym (stands.seen t before)))
         ∙ sym (alone-push (commands lines) line t)
-        ∙ ap (λ all. alone all t) (sym (map-append (λ (told : Told). told.0) lines ((line, answer) ∷ [])))
+        ∙ ap (λ all. alone all t) (sym (map-append (λ (told : AnsweredLine). told.0) lines ((line, answer) ∷ [])))
 
     seen : (t : Tables) → Agree (lock ∷ x.locks) present t → all_alone (commands (lines ++ (line, answer) ∷ [])) t ≡ with_changes changes t
     seen t same =
         let before = agree-fewer lock x.locks present t same in
-        ap (λ all. all_alone all t) (map-append (λ (told : Told). told.0) lines ((line, answer) ∷ []))
+        ap (λ all. all_alone all t) (map-append (λ (told : AnsweredLine). told.0) lines ((line, answer) ∷ []))
         ∙ all_alone-push (commands lines) line t
         ∙ ap (after_alone line) (stands.seen t before)
         ∙ left t same
@@ -103,7 +103,7 @@ absent : (o : Option (List ℕ)) → is_some o ≡ false → o ≡ None
 absent None e = refl
 absent (Some value) e = cc
 
-module _ (x : Transaction) (present : Tables) (lines : List Told) (session : Session) (table : Table) where
+module _ (x : Transaction) (present : Tables) (lines : List AnsweredLine) (session : Session) (table : Table) where
   -- what the transaction sees at a place is the same on all tables that agree on a lock of it
   view : (lock : Lock) (p : Place) (t : Tables) → conflict (ExclusiveKey p) lock ≡ true → Agree (lock ∷ x.locks) present t
       → get (with_changes x.changes present) p ≡ get (with_changes x.changes t) p

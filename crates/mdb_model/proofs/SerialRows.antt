@@ -8,7 +8,7 @@ use Rattle.mdb_model.specs.declared.script.Refusal.TheVariants.{Locked, DeviceFa
 use Rattle.mdb_model.specs.declared.script.Reply.TheVariants.{Found, PutDone, Committed}
 use Rattle.mdb_model.specs.Answers.{Answer, plain, refused}
 use Rattle.mdb_model.specs.Runs.{TakenLine}
-use Rattle.mdb_model.specs.Serial.{Told, open_lines, AreAlone}
+use Rattle.mdb_model.specs.Serial.{AnsweredLine, open_lines, AreAlone}
 use Rattle.mdb_model.proofs.Computing.{maps}
 
 abbrev one : Session
@@ -41,7 +41,7 @@ run =
     ∷ []
 
 -- the lines that the commit ends
-abbrev ended : List Told
+abbrev ended : List AnsweredLine
 ended = (put one, plain PutDone) ∷ (ask one, found) ∷ []
 
 before_commit : open_lines 1 (take 3 run) ≡ ended

@@ -29,7 +29,7 @@ use Rattle.mdb_model.specs.Answers.{Answer, plain, refused, row_reply}
 use Rattle.mdb_model.specs.Steps.{Facts, done, pages_saved, locked, changed, committed_by, has_changes, rows_of, links_of, after_backup_turn, after_savepoint_turn, after_revert, after_recover, Fits}
 use Rattle.mdb_model.specs.Refusals.{refusal, medium_full, same_state}
 use Rattle.mdb_model.specs.Runs.{Line, Step, CommandStep, IsDone, IsRefused}
-use Rattle.mdb_model.specs.Serial.{Told, lines_by, lines_with}
+use Rattle.mdb_model.specs.Serial.{AnsweredLine, lines_by, lines_with}
 use Rattle.mdb_model.proofs.LockLemmas.{holder-none, mapped-none}
 use Rattle.mdb_model.proofs.SerialPlaces.{with_changes-apart, net_changes-among, with_commits-push}
 use Rattle.mdb_model.proofs.SerialLines.{Agree, StandsAlone-get, StandsAlone-put, StandsAlone-deleted, StandsAlone-absent, StandsAlone-scan}
@@ -37,11 +37,11 @@ use Rattle.mdb_model.proofs.SerialWorlds.{Holds, Holds-state, Holds-ended, Holds
 use Rattle.mdb_model.proofs.SerialRefused.{is_own, is_mild, refusal-own, medium_full-own, admitted_lock, admitted_state}
 
 -- what holds of a world beside the open lines of each session
-abbrev pub HoldsOf : World → (ℕ → List Told) → Type 0
+abbrev pub HoldsOf : World → (ℕ → List AnsweredLine) → Type 0
 HoldsOf w lines = Holds w.state w.sessions w.history lines
 
 -- the open lines of each session after a line and its answer
-abbrev pub after_line : (ℕ → List Told) → Line → Answer → ℕ → List Told
+abbrev pub after_line : (ℕ → List AnsweredLine) → Line → Answer → ℕ → List AnsweredLine
 after_line lines line answer s = lines_by answer.reply (lines s) (lines_with s (lines s) line answer)
 
 -- a state that is Online alone
@@ -63,12 +63,12 @@ in_admin Admin e = λ is. cc
 in_admin Online e = cc
 
 -- a row that is found or not is no refusal
-row_joins : (o : Option (List ℕ)) (before with_it : List Told) → lines_by (row_reply o) before with_it ≡ with_it
+row_joins : (o : Option (List ℕ)) (before with_it : List AnsweredLine) → lines_by (row_reply o) before with_it ≡ with_it
 row_joins None before with_it = refl
 row_joins (Some value) before with_it = refl
 
 -- the tables of a commit are the same where another session has a lock
-commit_apart : (w : World) (lines : ℕ → List Told) (session other : ℕ) → HoldsOf w lines → other ≢ session
+commit_apart : (w : World) (lines : ℕ → List AnsweredLine) (session other : ℕ) → HoldsOf w lines → other ≢ session
     → Agree (transaction w other).locks (tables_of w.history) (tables_of (committed_by w session).history)
 commit_apart w lines session other holds away p lock there covers =
     let changes = (transaction w session).changes in
@@ -80,7 +80,7 @@ commit_apart w lines session other holds away p lock there covers =
           ∙ ap (λ q. conflict (ExclusiveKey q) lock) is
           ∙ holds.apart session other (ExclusiveKey (place_of change)) lock (λ e. away (sym e)) (holds.covered session change (net_changes-among (transaction w session).changes change among)) there)
 
-module _ (reading : PageReading) (w : World) (facts : Facts) (lines : ℕ → List Told) (holds : HoldsOf w lines) where
+module _ (reading : PageReading) (w : World) (facts : Facts) (lines : ℕ → List AnsweredLine) (holds : HoldsOf w lines) where
   -- a line keeps it with this answer and this world
   abbrev Kept : Command → Answer × World → Type 0
   Kept line e = HoldsOf e.1 (after_line lines (Some line) e.0)
@@ -102,7 +102,7 @@ module _ (reading : PageReading) (w : World) (facts : Facts) (lines : ℕ → Li
     get_holds key on nobody =
         let found = get (visible w session.0) (table.0, key) in
         let line = GetRow session table key in
-        subst (λ (after : ℕ → List Told). HoldsOf (locked w session.0 (ShareKey (table.0, key))) after)
+        subst (λ (after : ℕ → List AnsweredLine). HoldsOf (locked w session.0 (ShareKey (table.0, key))) after)
         (λ i s. sym (row_joins found (lines s) (lines_with s (lines s) (Some line) (plain (row_reply found)))) i)
         (Holds-more w.state w.sessions w.history lines (λ s. lines s ++ (line, plain (row_reply found)) ∷ []) session.0 (transaction w session.0).changes (ShareKey (table.0, key))
         on (free session.0 (ShareKey (table.0, key)) nobody) (λ change there. inl there)
@@ -208,16 +208,16 @@ module _ (reading : PageReading) (w : World) (facts : Facts) (lines : ℕ → Li
 -- Steps
 
 -- a refusal, but for a device that failed, leaves the open lines
-own_stays : (cause : Refusal) (before with_it : List Told) → is_own cause ≡ true → lines_by (Refused cause) before with_it ≡ before
+own_stays : (cause : Refusal) (before with_it : List AnsweredLine) → is_own cause ≡ true → lines_by (Refused cause) before with_it ≡ before
 own_stays DeviceFailed before with_it own = cc
 own_stays _ before with_it own = refl
 
-module _ (reading : PageReading) (w w' : World) (answer : Answer) (lines : ℕ → List Told) (holds : HoldsOf w lines) where
+module _ (reading : PageReading) (w w' : World) (answer : Answer) (lines : ℕ → List AnsweredLine) (holds : HoldsOf w lines) where
   -- a line that is refused
   refused-holds : (line : Line) (cause : Refusal) → is_own cause ≡ true → (answer ≡ refused cause) × (w' ≡ w) → HoldsOf w' (after_line lines line answer)
   refused-holds line cause own is =
       subst (λ (e : Answer × World). HoldsOf e.1 (after_line lines line e.0)) (λ i. (sym is.0 i, sym is.1 i))
-      (subst (λ (after : ℕ → List Told). HoldsOf w after) (λ i s. sym (own_stays cause (lines s) (lines_with s (lines s) line (refused cause)) own) i) holds)
+      (subst (λ (after : ℕ → List AnsweredLine). HoldsOf w after) (λ i s. sym (own_stays cause (lines s) (lines_with s (lines s) line (refused cause)) own) i) holds)
 
   -- a command
   CommandStep-holds : (facts : Facts) (line : Command) → CommandStep reading w line facts answer w' → HoldsOf w' (after_line lines (Some line) answer)

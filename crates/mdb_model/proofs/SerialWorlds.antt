@@ -15,7 +15,7 @@ use Rattle.mdb_model.specs.Tables.{place_of}
 use Rattle.mdb_model.specs.History.{History, tables_of}
 use Rattle.mdb_model.specs.Worlds.{Transaction, Lock, ShareKey, ExclusiveKey, ShareTable, no_transaction}
 use Rattle.mdb_model.specs.Sessions.{conflict}
-use Rattle.mdb_model.specs.Serial.{Told}
+use Rattle.mdb_model.specs.Serial.{AnsweredLine}
 use Rattle.mdb_model.proofs.SerialPlaces.{same_place-sym}
 use Rattle.mdb_model.proofs.SerialLines.{Agree, StandsAlone, StandsAlone-none, StandsAlone-kept}
 
@@ -63,7 +63,7 @@ taken_out m session s =
 
 -- no two sessions have locks that conflict, each change has its lock, no session is there at rest, and the open lines
 -- of each session stand
-pub record Holds (state : State) (sessions : FinMap nat_cmp Transaction) (history : History) (lines : ℕ → List Told) : Type 0 where
+pub record Holds (state : State) (sessions : FinMap nat_cmp Transaction) (history : History) (lines : ℕ → List AnsweredLine) : Type 0 where
   pub apart : (s t : ℕ) (a b : Lock) → s ≢ t → Contains (of_session sessions s).locks a → Contains (of_session sessions t).locks b → conflict a b ≡ false
   pub covered : (s : ℕ) (change : Change) → Contains (of_session sessions s).changes change → Contains (of_session sessions s).locks (ExclusiveKey (place_of change))
   pub at_rest : state ≢ Online → sessions ≡ empty
@@ -80,7 +80,7 @@ none_in_empty : (sessions : FinMap nat_cmp Transaction) (s : ℕ) → sessions �
 none_in_empty sessions s rest = ap (λ m. of_session m s) rest ∙ ap (λ o. unwrap_or o no_transaction) (get-empty nat_cmp s)
 
 -- another state, in which sessions may be there if they might be before
-pub Holds-state : (state later : State) (sessions : FinMap nat_cmp Transaction) (history : History) (lines : ℕ → List Told)
+pub Holds-state : (state later : State) (sessions : FinMap nat_cmp Transaction) (history : History) (lines : ℕ → List AnsweredLine)
     → (later ≢ Online → state ≢ Online) → Holds state sessions history lines → Holds later sessions history lines
 Holds-state state later sessions history lines back holds = record {
   apart = holds.apart;
@@ -99,7 +99,7 @@ Holds-ended state sessions history rest = record {
 }
 
 -- no sessions, and another history
-pub Holds-rest : (state later : State) (sessions : FinMap nat_cmp Transaction) (history other : History) (lines : ℕ → List Told)
+pub Holds-rest : (state later : State) (sessions : FinMap nat_cmp Transaction) (history other : History) (lines : ℕ → List AnsweredLine)
     → sessions ≡ empty → Holds state sessions history lines → Holds later sessions other lines
 Holds-rest state later sessions history other lines rest holds = record {
   apart = holds.apart;
@@ -109,7 +109,7 @@ Holds-rest state later sessions history other lines rest holds = record {
       (λ p lock there covers. absurd (nothing_there lock _ (ap (λ x. x.locks) (none_in_empty sessions s rest)) there)) (holds.stands s);
 }
 
-module _ (state : State) (sessions : FinMap nat_cmp Transaction) (history : History) (lines more : ℕ → List Told) (session : ℕ) (changes : List Change) (lock : Lock) where
+module _ (state : State) (sessions : FinMap nat_cmp Transaction) (history : History) (lines more : ℕ → List AnsweredLine) (session : ℕ) (changes : List Change) (lock : Lock) where
   -- what each session has done
   abbrev before : ℕ → Transaction
   before s = of_session sessions s
@@ -175,7 +175,7 @@ module _ (state : State) (sessions : FinMap nat_cmp Transaction) (history : Hist
           (λ (away, is). subst (λ y. StandsAlone y (tables_of history) (lines s)) (sym is) (holds.stands s))
           (inserted sessions session x s)
 
-module _ (state : State) (sessions : FinMap nat_cmp Transaction) (history later : History) (lines : ℕ → List Told) (session : ℕ) where
+module _ (state : State) (sessions : FinMap nat_cmp Transaction) (history later : History) (lines : ℕ → List AnsweredLine) (session : ℕ) where
   -- a session that ends, after which the tables are the same where others have locks
   pub Holds-less : state ≡ Online
       → ((other : ℕ) → other ≢ session → Agree (of_session sessions other).locks (tables_of history) (tables_of later))

@@ -1,4 +1,4 @@
--- What the program promises of a whole call, over an outside of which these things are told: the
+-- What the program promises of a whole call, over an outside of which these things are known: the
 -- output at each moment, the images that a crash may leave at each moment, and which worlds an
 -- image stands for.
 --     RepliesAreSaid, ScriptIsRead      the output and the lines of the script, by the status

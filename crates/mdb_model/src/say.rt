@@ -7,7 +7,7 @@ use crate::fault::Failed;
 
 /// An output that text is added to.
 pub trait Say {
-    /// What was said so far, where that is told.
+    /// What was said so far, where that is known.
     ghost said: { Self → Option (List ℕ) };
 
     /// How often a call has failed.

@@ -1,13 +1,14 @@
 -- What tests of blocks say.
-use Rattle.std.proofs.Common.{◌≡◌, ◌⊎◌, inl, inr, ℕ, suc, ◌<◌, List, [], ◌∷◌, length, get_or, Bool, true, false, ◌==◌, ◌||◌, refl, ap, sym, subst, ◌∙◌, arith, eq-eqb, eqb→eq, T}
+use Rattle.std.proofs.Common.{◌≡◌, inl, inr, ℕ, suc, ◌<◌, List, [], ◌∷◌, length, get_or, Bool, true, false, ◌==◌, ◌||◌, refl, ap, sym, subst, ◌∙◌, arith, eq-eqb, eqb→eq, T}
 use Rattle.std.specs.Prelude.{IsTrue, IsErrAnd, IfErr, OnErr, Result, Ok, Err}
 use Rattle.std.specs.List.{list_any}
-use Rattle.std.proofs.lemmas.Bool.{cases_lt, false≢true}
+use Rattle.std.proofs.lemmas.Bool.{cases_lt, false≢true, or_cases, or_left, or_right, false_from_ne_true}
 use Rattle.std.proofs.lemmas.List.{get_or_past}
 use Rattle.std.proofs.lemmas.List.Folds.{list_any_at}
 use Rattle.mdb_bytes.specs.declared.converter_pages.ConverterEntry.{ConverterEntry}
+use Rattle.mdb_bytes.specs.Firsts.{no_entry}
 use Rattle.free_blocks.specs.Marked.{IsMarked}
-use Rattle.converter.specs.Maps.{no_entry, block_of}
+use Rattle.converter.specs.Maps.{block_of}
 use Rattle.page_store.specs.Store.{Store, is_marked, IsHeld}
 use Rattle.page_store.specs.LogicalPages.{has_block, is_held}
 
@@ -19,17 +20,6 @@ any_some p (x ∷ xs) d is =
       | true ↦ λ here _. (0, here)
       | false ↦ λ _ rest. let later = any_some p xs d rest in (suc later.0, later.1)
     ] refl is
-
-or_either : (a b : Bool) → (a || b) ≡ true → (a ≡ true) ⊎ (b ≡ true)
-or_either true b is = inl refl
-or_either false b is = inr is
-
-or_left : (a b : Bool) → a ≡ true → (a || b) ≡ true
-or_left a b is = ap (λ (x : Bool). x || b) is
-
-or_right : (a b : Bool) → b ≡ true → (a || b) ≡ true
-or_right true b is = refl
-or_right false b is = is
 
 pub marked_true : (marks : List (List Bool)) (b : ℕ) → IsMarked marks b → is_marked marks b ≡ true
 marked_true marks b (i, is) = elim (cases_lt i (length (get_or marks b []))) [
@@ -57,20 +47,16 @@ held_true s b some held = elim held [
 ]
 
 pub held_some : (s : Store) (b : ℕ) → is_held s b ≡ true → IsHeld s b
-held_some s b is = elim (or_either (has_block s.maps.saved b || has_block s.maps.frozen b) (is_marked s.marks b) is) [
-  | inl kept ↦ elim (or_either (has_block s.maps.saved b) (has_block s.maps.frozen b) kept) [
+held_some s b is = elim (or_cases (has_block s.maps.saved b || has_block s.maps.frozen b) (is_marked s.marks b) is) [
+  | inl kept ↦ elim (or_cases (has_block s.maps.saved b) (has_block s.maps.frozen b) kept) [
     | inl saved ↦ let at = block_some s.maps.saved b saved in inl (at.0, inl at.1)
     | inr frozen ↦ let at = block_some s.maps.frozen b frozen in inl (at.0, inr at.1)
   ]
   | inr marked ↦ inr (marked_some s.marks b marked)
 ]
 
-pub not_true : (t : Bool) → (t ≡ true → ⊥) → t ≡ false
-not_true true isnt = absurd (isnt refl)
-not_true false isnt = refl
-
 pub unmarked_false : (marks : List (List Bool)) (b : ℕ) (t : Bool) → t ≡ false → (IsMarked marks b → IsTrue t) → is_marked marks b ≡ false
-unmarked_false marks b t is told = not_true (is_marked marks b) (λ marked. false≢true (sym is ∙ told (marked_some marks b marked)))
+unmarked_false marks b t is told = false_from_ne_true (is_marked marks b) (λ marked. false≢true (sym is ∙ told (marked_some marks b marked)))
 
 -- what holds of a fault that is passed on is on the error of the answer
 pub on_passed : {U E P : Type 0} (fault : E) (answer : Result U E)

@@ -2,7 +2,8 @@
 use Rattle.std.proofs.Common.{◌≡◌, ℕ, ◌+◌, List, [], length, get_or, set, Bool, true, false, Option, Some, ap, sym, subst, ◌∙◌, arith, length-set}
 use Rattle.std.proofs.lemmas.List.{set-get_or}
 use Rattle.mdb_bytes.specs.declared.converter_pages.ConverterEntry.{ConverterEntry}
-use Rattle.converter.specs.Maps.{Maps, no_entry}
+use Rattle.mdb_bytes.specs.Firsts.{no_entry}
+use Rattle.converter.specs.Maps.{Maps}
 use Rattle.page_store.specs.declared.store.FrameState.{FrameState}
 use Rattle.page_store.specs.declared.store.FrameState.TheVariants.{Absent, Changed}
 use Rattle.page_store.specs.Store.{Store, IsStore, IsKeptStore, store_of, shown_frames, shown_pin, frame_of}

@@ -2,6 +2,7 @@
 use Rattle.std.proofs.Common.{◌≡◌, ◌⊎◌, inl, inr, ℕ, ◌+◌, ◌<◌, ◌≤◌, List, length, get_or, replicate, true, false, Option, Some, None, refl, ap, sym, subst, ◌∙◌, arith}
 use Rattle.std.specs.Prelude.{unwrap_or}
 use Rattle.std.proofs.lemmas.List.{get_or-set_same}
+use Rattle.std.proofs.lemmas.Bool.{cases_eq, cases_lt, false_from_ne_true}
 use Rattle.mdb_model.specs.Images.{Image}
 use Rattle.mdb_host.specs.Disk.{Disk, Goes, Agree}
 use Rattle.mdb_host.proofs.Moments.{widen, same_image}
@@ -10,29 +11,47 @@ use Rattle.free_blocks.specs.Free.{free_count}
 use Rattle.free_blocks.proofs.Counts.{one_less, one_more}
 use Rattle.volume_disk.specs.Blocks.{block_at}
 use Rattle.volume_disk.proofs.Writes.{writes_agree}
-use Rattle.converter.specs.Maps.{IsSound}
+use Rattle.converter.specs.Maps.{IsSoundMaps}
 use Rattle.converter.proofs.Spelled.{free_below}
-use Rattle.page_store.specs.Store.{Store, blocks_of, page_block, frozen_block, frame_of, bytes_of, IsHeld, IsStore, IsKnown, spare_of}
+use Rattle.page_store.specs.Store.{Store, block_count, page_block, frozen_block, frame_of, block_bytes, IsHeld, IsStore, IsKnown, spare_of}
 use Rattle.page_store.specs.LogicalPages.{is_held, paid_pages}
-use Rattle.page_store.specs.Steps.{KeepsMaps, MayWrite, Keeps, OnePage, GivesUp, leaves, gives, MakesPage, Readies}
+use Rattle.page_store.specs.Stamps.{AreStamped, PageStep, stays_same, is_newest, is_dead}
+use Rattle.page_store.specs.Steps.{KeepsMaps, MayWrite, KeepsStore, OnePage, GivesUp, leaves, gives, MakesPage, Readies}
 use Rattle.page_store.proofs.Moves.{here, not_used, is_below, gone_here, not_free}
-use Rattle.page_store.proofs.PageSteps.{bare_page, given_page, moved_page, held_back}
+use Rattle.page_store.proofs.PageSteps.{other_block, bare_page, given_page, moved_page, held_back}
 use Rattle.page_store.proofs.Spares.{some_free}
-use Rattle.page_store.proofs.Answering.{not_true, held_true, held_some}
+use Rattle.page_store.proofs.Answering.{held_true, held_some}
 use Rattle.page_store.proofs.Views.{price_held}
+
+-- a page after one call, as the devices are then
+seen_later : (known : Type 0) (a b : Store) (x y : Image) (p : ℕ) → (known → x ≡ y) → PageStep known a b x x p → PageStep known a b x y p
+seen_later known a b x y p same (stays_same entry bytes) = stays_same entry (λ is. subst (λ (i : Image). block_bytes b i (page_block b p) ≡ block_bytes a x (page_block a p)) (same is) (bytes is))
+seen_later known a b x y p same (is_newest at) = is_newest at
+seen_later known a b x y p same (is_dead none) = is_dead none
+
+-- each page after a call that changed one
+each_page : (T : Type 0) (a b : Store) (page : ℕ) (seen : Image) → OnePage T a b page seen → AreStamped a → (p : ℕ) → PageStep (IsKnown T a seen) a b seen seen p
+each_page T a b page seen one is p = elim (cases_eq p page) [
+  | inl at ↦ subst (λ (x : ℕ). PageStep (IsKnown T a seen) a b seen seen x) (sym at) (one.here is)
+  | inr away ↦ elim (cases_lt 0 (page_block a p)) [
+    | inl lives ↦ stays_same (one.others p away) (λ known. ap (block_bytes b seen) (other_block one p away) ∙ one.elsewhere known (page_block a p) (lives, inr (p, away, refl)))
+    | inr none ↦ is_dead (omega (arith, other_block one p away, none))
+  ]
+]
 
 -- no device was written
 pub keeps_page : (T : Type 0) (a b : Store) (page : ℕ) (before after : Disk) → OnePage T a b page before.seen → (T → Goes before after Agree) → (T → Agree before.seen after.seen)
-    → (a.maps.conv ≤ free_count a.free → b.maps.conv ≤ free_count b.free) → Keeps T a b before after
+    → (a.maps.conv ≤ free_count a.free → b.maps.conv ≤ free_count b.free) → KeepsStore T a b before after
 keeps_page T a b page before after one goes agree room = record {
   maps = one.keeps;
   goes = λ told. widen before after _ _ (goes told) (λ x y left same. writes_agree a.sizes (MayWrite a) x y same);
   seen = λ told. writes_agree a.sizes (MayWrite a) before.seen after.seen (agree told);
   known = λ known. subst (λ (x : Image). IsKnown T b x) (same_image before.seen after.seen (agree known.told)) (one.known known);
   bytes = λ known q some.
-      subst (λ (x : Image). bytes_of b x (frozen_block a q) ≡ bytes_of a before.seen (frozen_block a q)) (same_image before.seen after.seen (agree known.told))
+      subst (λ (x : Image). block_bytes b x (frozen_block a q) ≡ block_bytes a before.seen (frozen_block a q)) (same_image before.seen after.seen (agree known.told))
       (one.elsewhere known (frozen_block a q) (some, inl (inl (a.maps.conv + q, inr refl))));
   room = room;
+  stamps = λ is. (one.stamped is, λ p. seen_later _ a b before.seen after.seen p (λ known. same_image before.seen after.seen (agree known.told)) (each_page T a b page before.seen one is p));
 }
 
 -- whether a block is kept
@@ -59,7 +78,7 @@ ready_room T a b page x seen ready lives room fits = elim (held_or a (page_block
 
 -- A page given up
 
-pub freed_is : (T : Type 0) (a b : Store) (page : ℕ) (seen : Image) → IsSound a.maps → IsStore a → page < blocks_of a → 0 < page_block a page → GivesUp a b page
+pub freed_is : (T : Type 0) (a b : Store) (page : ℕ) (seen : Image) → IsSoundMaps a.maps → IsStore a → page < block_count a → 0 < page_block a page → GivesUp a b page
     → OnePage T a b page seen × (page_block b page ≡ 0) × (free_count a.free ≤ free_count b.free)
 freed_is T a b page seen sound store below lives (leaves held is) = (
   subst (λ (t : Store). OnePage T a t page seen) (sym is) (bare_page T a page seen sound store below lives),
@@ -69,7 +88,7 @@ freed_is T a b page seen sound store below lives (leaves held is) = (
 freed_is T a b page seen sound store below lives (gives owned is) =
     let x = page_block a page in
     let lt : x < length a.free = omega (arith, store.area, (sound.present_small (a.maps.conv + page)).0) in
-    let taken : get_or a.free x false ≡ false = not_true (get_or a.free x false) (not_free a page sound store below lives) in (
+    let taken : get_or a.free x false ≡ false = false_from_ne_true (get_or a.free x false) (not_free a page sound store below lives) in (
       subst (λ (t : Store). OnePage T a t page seen) (sym is) (given_page T a page seen sound store below lives x refl owned),
       ap (λ (t : Store). page_block t page) is ∙ gone_here a page sound store below lives,
       omega (arith, ap (λ (t : Store). free_count t.free) is, one_more a.free x lt taken),
@@ -81,10 +100,10 @@ pub record Made (T : Type 0) (a b : Store) (page : ℕ) (seen : Image) : Type 0 
   pub step : OnePage T a b page seen
   pub lives : 0 < page_block b page
   pub owned : IsHeld b (page_block b page) → ⊥
-  pub bytes : bytes_of b seen (page_block b page) ≡ replicate 8192 0
+  pub bytes : block_bytes b seen (page_block b page) ≡ replicate 8192 0
   pub less : free_count a.free ≤ free_count b.free + 1
 
-pub made_is : (T : Type 0) (a b : Store) (page : ℕ) (seen : Image) → IsSound a.maps → IsStore a → MakesPage a b page → Made T a b page seen
+pub made_is : (T : Type 0) (a b : Store) (page : ℕ) (seen : Image) → IsSoundMaps a.maps → IsStore a → MakesPage a b page → Made T a b page seen
 made_is T a b page seen sound store made =
     let zeros = replicate 8192 0 in
     let left = inl made.dead in
@@ -99,7 +118,7 @@ made_is T a b page seen sound store made =
         | inl kept ↦ not_used a page made.block zeros sound store made.below made.free left (kept.0, inr kept.1)
         | inr marked ↦ store.unmarked made.block made.free marked
       ];
-      bytes = ap (λ (x : ℕ). bytes_of b seen x) at ∙ ap (λ (o : Option (List ℕ)). unwrap_or o (block_at b.sizes seen made.block)) frame;
+      bytes = ap (λ (x : ℕ). block_bytes b seen x) at ∙ ap (λ (o : Option (List ℕ)). unwrap_or o (block_at b.sizes seen made.block)) frame;
       less = omega (arith, ap (λ (t : Store). free_count t.free) made.put, one_less a.free made.block (free_below a.free made.block made.free) made.free);
     }
 

@@ -14,13 +14,13 @@ use Rattle.gate_slots.specs.declared.place.SlotPlace.{SlotPlace}
 use Rattle.gate_slots.specs.Steps.{SlotsTorn}
 use Rattle.savepoint.specs.Stands.{restart_place}
 use Rattle.savepoint.proofs.StandsSteps.{switch_blocks}
-use Rattle.converter.specs.Maps.{Maps, block_of, HasAt, IsSound, settled}
+use Rattle.converter.specs.Maps.{Maps, block_of, HasAt, IsSoundMaps, frozen_as_saved}
 use Rattle.converter.specs.Own.{OwnOnly}
 use Rattle.converter.proofs.Sound.{none_there}
-use Rattle.page_store.specs.Store.{Store, IsStore, Reads, IsKnown}
+use Rattle.page_store.specs.Store.{Store, IsStore, FramesMatch, IsKnown}
 use Rattle.page_store.specs.Steps.{frozen_now}
 
-pub frozen_reads : (s : Store) (seen : Image) → Reads s seen → Reads (frozen_now s) seen
+pub frozen_reads : (s : Store) (seen : Image) → FramesMatch s seen → FramesMatch (frozen_now s) seen
 frozen_reads s seen reads q b bytes le some has quiet frame = reads q b bytes le some was quiet frame
   where
     was : HasAt s.maps q b
@@ -32,7 +32,7 @@ frozen_reads s seen reads q b bytes le some has quiet frame = reads q b bytes le
       ]
     ]
 
-pub settled_reads : (s : Store) (f : List Bool) (seen : Image) → Reads s seen → Reads record s { maps = settled s.maps; free = f } seen
+pub settled_reads : (s : Store) (f : List Bool) (seen : Image) → FramesMatch s seen → FramesMatch record s { maps = frozen_as_saved s.maps; free = f } seen
 settled_reads s f seen reads q b bytes le some has quiet frame = reads q b bytes le some was quiet frame
   where
     was : HasAt s.maps q b
@@ -47,7 +47,7 @@ settled_reads s f seen reads q b bytes le some has quiet frame = reads q b bytes
 pub agree_known : (T : Type 0) (s : Store) (a b : Image) → (T → Agree a b) → IsKnown T s a → IsKnown T s b
 agree_known T s a b agree known = subst (λ (x : Image). IsKnown T s x) (same_image a b (agree known.told)) known
 
-small_block : (s : Store) (q b : ℕ) → IsSound s.maps → IsStore s → HasAt s.maps q b → b < sum s.sizes
+small_block : (s : Store) (q b : ℕ) → IsSoundMaps s.maps → IsStore s → HasAt s.maps q b → b < sum s.sizes
 small_block s q b sound store has = elim has [
   | inl present ↦ omega (arith, present, store.blocks, (sound.present_small q).0)
   | inr kept ↦ elim kept [
@@ -56,7 +56,7 @@ small_block s q b sound store has = elim has [
   ]
 ]
 
-pub own_known : (T : Type 0) (s : Store) (m : Maps) (f : List Bool) (a b : Image) → IsSound s.maps → IsStore s → OwnOnly s.maps m → (T → Writes s.sizes (IsFree s.free) a b) → IsKnown T s a → IsKnown T record s { maps = m; free = f } b
+pub own_known : (T : Type 0) (s : Store) (m : Maps) (f : List Bool) (a b : Image) → IsSoundMaps s.maps → IsStore s → OwnOnly s.maps m → (T → Writes s.sizes (IsFree s.free) a b) → IsKnown T s a → IsKnown T record s { maps = m; free = f } b
 own_known T s m f a b sound store own writes known = record {
   told = known.told;
   reads = λ q c bytes le some has quiet frame.
@@ -78,7 +78,7 @@ torn_sizes d at n a b torn e = elim (same_device e d) [
   | inr other ↦ ap size_of (torn.others e other)
 ]
 
-pub switch_known : (T : Type 0) (s : Store) (place : SlotPlace) (a b : Image) → IsSound s.maps → place ≡ restart_place → 2 ≤ get_or s.sizes 0 0 → (T → SlotsTorn place a b) → IsKnown T s a → IsKnown T s b
+pub switch_known : (T : Type 0) (s : Store) (place : SlotPlace) (a b : Image) → IsSoundMaps s.maps → place ≡ restart_place → 2 ≤ get_or s.sizes 0 0 → (T → SlotsTorn place a b) → IsKnown T s a → IsKnown T s b
 switch_known T s place a b sound at big torn known = record {
   told = known.told;
   reads = λ q c bytes le some has quiet frame.

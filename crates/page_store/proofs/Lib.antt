@@ -15,3 +15,8 @@ pub mod Opened
 pub mod Released
 pub mod Knowing
 pub mod Pinned
+pub mod Counting
+pub mod MapSteps
+pub mod NextRecord
+pub mod Switching
+pub mod SavingRoom

@@ -5,10 +5,12 @@ use Rattle.std.proofs.lemmas.List.{get_or-set_same, get_or-set_other, get_or_pas
 use Rattle.free_blocks.specs.Free.{IsFree}
 use Rattle.free_blocks.specs.Marked.{IsMarked}
 use Rattle.mdb_bytes.specs.declared.converter_pages.ConverterEntry.{ConverterEntry}
-use Rattle.converter.specs.Maps.{no_entry, block_of, KeepsAt, HasAt, IsUsed, IsSound, AreUnused}
+use Rattle.mdb_bytes.specs.Firsts.{no_entry}
+use Rattle.converter.specs.Maps.{block_of, entry_at, KeepsAt, HasAt, IsUsed, IsSoundMaps, AreUnused}
 use Rattle.converter.proofs.Sound.{block_set}
 use Rattle.converter.proofs.Spelled.{free_below}
-use Rattle.page_store.specs.Store.{Store, blocks_of, page_block, frame_of, has_changed, IsHeld, IsStore, PinMarks}
+use Rattle.page_store.specs.Store.{Store, block_count, page_block, frame_of, has_changed, IsHeld, IsStore, PinMarks}
+use Rattle.page_store.specs.Stamps.{page_entry}
 use Rattle.page_store.specs.Steps.{moved_to, newer_at, without_page, given_block}
 
 -- a test that was set for one block
@@ -27,7 +29,7 @@ set_false l b c is = elim (cases_eq c b) [
   | inr other ↦ (other, sym (get_or-set_other l b c false false other) ∙ is)
 ]
 
-module _ (s : Store) (page b : ℕ) (bytes : List ℕ) (sound : IsSound s.maps) (store : IsStore s) (below : page < blocks_of s) (free : IsFree s.free b)
+module _ (s : Store) (page b : ℕ) (bytes : List ℕ) (sound : IsSoundMaps s.maps) (store : IsStore s) (below : page < block_count s) (free : IsFree s.free b)
     (left : (page_block s page ≡ 0) ⊎ IsHeld s (page_block s page)) where
   abbrev place : ℕ
   place = s.maps.conv + page
@@ -38,17 +40,23 @@ module _ (s : Store) (page b : ℕ) (bytes : List ℕ) (sound : IsSound s.maps) 
   abbrev now : Store
   now = moved_to s page b bytes
 
-  pub is_below : b < blocks_of s
+  pub is_below : b < block_count s
   is_below = omega (arith, free_below s.free b free, store.area)
 
   pub not_used : IsUsed s.maps b → ⊥
   not_used = (store.unused b free).1
 
+  pub entry_here : page_entry now page ≡ e
+  entry_here = get_or-set_same s.maps.present place e no_entry (omega (arith, sound.present_long, below))
+
   pub here : page_block now page ≡ b
-  here = ap (λ (x : ConverterEntry). x.block) (get_or-set_same s.maps.present place e no_entry (omega (arith, sound.present_long, below)))
+  here = ap (λ (x : ConverterEntry). x.block) entry_here
+
+  pub other_entry : (q : ℕ) → q ≢ place → entry_at now.maps.present q ≡ entry_at s.maps.present q
+  other_entry q other = get_or-set_other s.maps.present place q e no_entry other
 
   pub other_place : (q : ℕ) → q ≢ place → block_of now.maps.present q ≡ block_of s.maps.present q
-  other_place q other = ap (λ (x : ConverterEntry). x.block) (get_or-set_other s.maps.present place q e no_entry other)
+  other_place q other = ap (λ (x : ConverterEntry). x.block) (other_entry q other)
 
   pub used_before : (c q : ℕ) → c ≢ b → HasAt now.maps q c → HasAt s.maps q c
   used_before c q other has = elim has [
@@ -59,7 +67,7 @@ module _ (s : Store) (page b : ℕ) (bytes : List ℕ) (sound : IsSound s.maps) 
     | inr kept ↦ inr kept
   ]
 
-  still_freed : (c : ℕ) → 1 < c → c < blocks_of now → (IsUsed now.maps c → ⊥) → (IsMarked s.marks c → ⊥) → IsFree now.free c
+  still_freed : (c : ℕ) → 1 < c → c < block_count now → (IsUsed now.maps c → ⊥) → (IsMarked s.marks c → ⊥) → IsFree now.free c
   still_freed c high lt unused unmarked =
       let other : c ≢ b = λ same. unused (place, inl (here ∙ sym same)) in
       let before : IsUsed s.maps c → ⊥ = λ used. elim used.1 [
@@ -110,7 +118,7 @@ module _ (s : Store) (page b : ℕ) (bytes : List ℕ) (sound : IsSound s.maps) 
   }
 
 -- a page whose frame is newer, on a block that nothing keeps
-pub newer_store : (s : Store) (page b : ℕ) (bytes : List ℕ) → IsSound s.maps → IsStore s → 0 < b → page_block s page ≡ b → (IsHeld s b → ⊥) → frame_of s b ≡ Some bytes → IsStore (newer_at s b)
+pub newer_store : (s : Store) (page b : ℕ) (bytes : List ℕ) → IsSoundMaps s.maps → IsStore s → 0 < b → page_block s page ≡ b → (IsHeld s b → ⊥) → frame_of s b ≡ Some bytes → IsStore (newer_at s b)
 newer_store s page b bytes sound store some is owned there = record {
   area = store.area;
   marks_long = store.marks_long;
@@ -138,18 +146,24 @@ newer_store s page b bytes sound store some is owned there = record {
   pins = store.pins;
 }
 
-module _ (s : Store) (page : ℕ) (sound : IsSound s.maps) (store : IsStore s) (below : page < blocks_of s) (lives : 0 < page_block s page) where
+module _ (s : Store) (page : ℕ) (sound : IsSoundMaps s.maps) (store : IsStore s) (below : page < block_count s) (lives : 0 < page_block s page) where
   abbrev spot : ℕ
   spot = s.maps.conv + page
 
   abbrev bare : Store
   bare = without_page s page
 
+  pub gone_entry : page_entry bare page ≡ no_entry
+  gone_entry = get_or-set_same s.maps.present spot no_entry no_entry (omega (arith, sound.present_long, below))
+
   pub gone_here : page_block bare page ≡ 0
-  gone_here = ap (λ (x : ConverterEntry). x.block) (get_or-set_same s.maps.present spot no_entry no_entry (omega (arith, sound.present_long, below)))
+  gone_here = ap (λ (x : ConverterEntry). x.block) gone_entry
+
+  pub spot_entry : (q : ℕ) → q ≢ spot → entry_at bare.maps.present q ≡ entry_at s.maps.present q
+  spot_entry q other = get_or-set_other s.maps.present spot q no_entry no_entry other
 
   pub other_spot : (q : ℕ) → q ≢ spot → block_of bare.maps.present q ≡ block_of s.maps.present q
-  other_spot q other = ap (λ (x : ConverterEntry). x.block) (get_or-set_other s.maps.present spot q no_entry no_entry other)
+  other_spot q other = ap (λ (x : ConverterEntry). x.block) (spot_entry q other)
 
   pub has_before : (c q : ℕ) → 0 < c → HasAt bare.maps q c → HasAt s.maps q c
   has_before c q some has = elim has [
@@ -235,7 +249,7 @@ module _ (s : Store) (page : ℕ) (sound : IsSound s.maps) (store : IsStore s) (
       | inr other ↦ unchanged_to c other same
     ]
 
-    b_low : b < blocks_of s
+    b_low : b < block_count s
     b_low = omega (arith, is, (sound.present_small spot).0)
 
     b_same : get_or (set s.changed b false) b false ≡ false

@@ -7,17 +7,17 @@ use Rattle.mdb_model.specs.Images.{Image}
 use Rattle.mdb_bytes.specs.declared.converter_pages.ConverterEntry.{ConverterEntry}
 use Rattle.free_blocks.specs.Marked.{IsMarked}
 use Rattle.volume_disk.specs.Blocks.{IsArea}
-use Rattle.converter.specs.Maps.{Maps, block_of, IsSound, empty_maps}
+use Rattle.converter.specs.Maps.{Maps, block_of, IsSoundMaps, empty_maps}
 use Rattle.converter.proofs.Sound.{none_there}
 use Rattle.page_store.specs.declared.store.FrameState.{FrameState}
 use Rattle.page_store.specs.declared.store.FrameState.TheVariants.{Absent}
-use Rattle.page_store.specs.Store.{Store, AreSixteen, IsStore, IsKeptStore, IsKnown, store_of, shown_frames, is_changed, has_changed}
+use Rattle.page_store.specs.Store.{Store, AreSixteen, IsStore, IsKeptStore, IsKnown, store_of, shown_frames, is_changed_frame, has_changed}
 use Rattle.mdb_model.specs.declared.fault.Damage.{Damage}
 use Rattle.mdb_model.specs.declared.fault.PageFault.{PageFault}
 use Rattle.mdb_model.specs.declared.fault.PageFault.TheVariants.{Failed as PageFailed, Damaged as PageDamaged}
 use Rattle.mdb_model.specs.declared.fault.OpenFault.TheVariants.{Failed}
-use Rattle.converter.specs.Loads.{Tells}
-use Rattle.page_store.specs.Opens.{FreesUnused, IsOpened, OpensTells, opening_fault}
+use Rattle.converter.specs.Loads.{FaultReports}
+use Rattle.page_store.specs.Opens.{FreesUnused, IsStoreOpened, OpenFaultReports, opening_fault}
 use Rattle.page_store.proofs.Shown.{length_shown, changed_at}
 
 not_none : {A : Type 0} {x : A} → None ≡ Some x → ⊥
@@ -28,7 +28,7 @@ shown_absent zero frames long = refl
 shown_absent (suc n) [] long = absurd (omega arith)
 shown_absent (suc n) (f ∷ fs) long = ap (λ (l : List (Option (List ℕ))). None ∷ l) (shown_absent n fs (omega arith))
 
-pub changed_absent : (n : ℕ) → map is_changed (replicate n Absent) ≡ replicate n false
+pub changed_absent : (n : ℕ) → map is_changed_frame (replicate n Absent) ≡ replicate n false
 changed_absent zero = refl
 changed_absent (suc n) = ap (λ (l : List Bool). false ∷ l) (changed_absent n)
 
@@ -51,7 +51,7 @@ none_marked n b (i, is) = elim (cases_lt b n) [
 ]
 
 module _ (m : Maps) (n savepoint : ℕ) (flags : List Bool) (marks : List (List Bool)) (sizes : List ℕ) (frames : List (List ℕ)) (states : List FrameState) (room : List ConverterEntry)
-    (sound : IsSound m) (loaded : m ≡ record (empty_maps n m.owner) { present = m.saved; saved = m.saved }) (area : length m.owner ≡ n) (freed : FreesUnused m n flags)
+    (sound : IsSoundMaps m) (loaded : m ≡ record (empty_maps n m.owner) { present = m.saved; saved = m.saved }) (area : length m.owner ≡ n) (freed : FreesUnused m n flags)
     (none : marks ≡ replicate n (replicate 16 false)) (blocks : sum sizes ≡ n) (long : length frames ≡ n) (absent : states ≡ replicate n Absent) (places : length room ≡ m.conv + n) (small : savepoint + 1 < 2 ^ 62) where
   abbrev opened : Store
   opened = store_of m flags marks sizes frames states (savepoint + 1) false room
@@ -60,7 +60,7 @@ module _ (m : Maps) (n savepoint : ℕ) (flags : List Bool) (marks : List (List 
   states_long = ap (λ (l : List FrameState). length l) absent ∙ length-replicate n Absent
 
   same : (b : ℕ) → has_changed opened b ≡ false
-  same b = changed_at states b ∙ ap (λ (l : List FrameState). is_changed (get_or l b Absent)) absent ∙ ap is_changed (all_default n b Absent)
+  same b = changed_at states b ∙ ap (λ (l : List FrameState). is_changed_frame (get_or l b Absent)) absent ∙ ap is_changed_frame (all_default n b Absent)
 
   unmarked : (b : ℕ) → IsMarked marks b → ⊥
   unmarked b is = none_marked n b (subst (λ (l : List (List Bool)). IsMarked l b) none is)
@@ -78,7 +78,7 @@ module _ (m : Maps) (n savepoint : ℕ) (flags : List Bool) (marks : List (List 
     marks_long = ap (λ (l : List (List Bool)). length l) none ∙ length-replicate n (replicate 16 false) ∙ sym area;
     sixteen = sixteen;
     frames_long = length_shown states frames (long ∙ sym states_long) ∙ states_long ∙ sym area;
-    changed_long = length-map states is_changed ∙ states_long ∙ sym area;
+    changed_long = length-map states is_changed_frame ∙ states_long ∙ sym area;
     blocks = blocks ∙ sym area;
     unused = λ b free. let u = freed.unused b free in (u.0, u.2);
     unmarked = λ b free marked. unmarked b marked;
@@ -91,20 +91,20 @@ module _ (m : Maps) (n savepoint : ℕ) (flags : List Bool) (marks : List (List 
     thawed = λ is q. ap (λ (x : Maps). block_of x.frozen q) loaded ∙ ap (λ (e : ConverterEntry). e.block) (none_there (1 + (n + 599) / 600 + n) q);
     some_next = omega arith;
     small_next = small;
-    pins = unmarked;
+    pins = λ b has. unmarked b (0, has);
   }
 
   pub opened_kept : IsKeptStore m flags marks sizes frames states (savepoint + 1) false room
   opened_kept = record { store = opened_store; frames_long = long ∙ sym area; states_long = states_long ∙ sym area; room_long = omega (arith, places, area) }
 
-  pub opened_is : (own : List ℕ) → sizes ≡ own → IsOpened opened own savepoint
+  pub opened_is : (own : List ℕ) → sizes ≡ own → IsStoreOpened opened own savepoint
   opened_is own is = record {
     maps = subst (λ (k : ℕ). m ≡ record (empty_maps k m.owner) { present = m.saved; saved = m.saved }) count loaded;
     free = subst (λ (k : ℕ). FreesUnused m k flags) count freed;
     marks = subst (λ (k : ℕ). marks ≡ replicate k (replicate 16 false)) count none;
     sizes_are = is;
     frames = subst (λ (k : ℕ). shown_frames states frames ≡ replicate k None) count frames_are;
-    changed = ap (λ (l : List FrameState). map is_changed l) absent ∙ changed_absent n ∙ ap (λ (k : ℕ). replicate k false) count;
+    changed = ap (λ (l : List FrameState). map is_changed_frame l) absent ∙ changed_absent n ∙ ap (λ (k : ℕ). replicate k false) count;
     next = refl;
     pinned = refl;
   }
@@ -119,7 +119,7 @@ module _ (m : Maps) (n savepoint : ℕ) (flags : List Bool) (marks : List (List 
     there = there;
   }
 
-pub tells_opening : (P : Damage → Type 0) (fault : PageFault) → Tells P fault → OpensTells P (opening_fault fault)
+pub tells_opening : (P : Damage → Type 0) (fault : PageFault) → FaultReports P fault → OpenFaultReports P (opening_fault fault)
 tells_opening P PageFailed told = tt
 tells_opening P (PageDamaged damage) told = told
 

@@ -5,10 +5,10 @@ use Rattle.std.proofs.lemmas.List.{get_or-set_same, get_or-set_other, set_past}
 use Rattle.mdb_model.specs.Images.{Image}
 use Rattle.free_blocks.specs.Free.{free_count}
 use Rattle.free_blocks.proofs.Counts.{one_less}
-use Rattle.converter.specs.Maps.{IsSound}
+use Rattle.converter.specs.Maps.{IsSoundMaps}
 use Rattle.converter.proofs.Spelled.{free_below}
-use Rattle.page_store.specs.Store.{Store, blocks_of, page_block, frame_of, has_changed, bytes_of, IsHeld, IsStore}
-use Rattle.page_store.specs.Steps.{OnePage, Fills, Shows, Pays, moves, stays, Readies}
+use Rattle.page_store.specs.Store.{Store, block_count, page_block, frame_of, has_changed, block_bytes, IsHeld, IsStore}
+use Rattle.page_store.specs.Steps.{OnePage, Fills, ShowsFrame, Pays, moves, stays, Readies}
 use Rattle.page_store.proofs.Moves.{here, is_below, not_used}
 use Rattle.page_store.proofs.PageSteps.{filled_page, moved_page, newer_page, page_on, held_back}
 
@@ -21,7 +21,7 @@ set_stays l b c is = elim (cases_eq c b) [
   | inr other ↦ get_or-set_other l b c true false other ∙ is
 ]
 
-pub shows_is : (T : Type 0) (s new : Store) (page b : ℕ) (seen : Image) → IsSound s.maps → IsStore s → IsSound new.maps → page_block s page ≡ b → b < blocks_of s → Fills T s new b seen → Shows T s new page b seen
+pub shows_is : (T : Type 0) (s new : Store) (page b : ℕ) (seen : Image) → IsSoundMaps s.maps → IsStore s → IsSoundMaps new.maps → page_block s page ≡ b → b < block_count s → Fills T s new b seen → ShowsFrame T s new page b seen
 shows_is T s new page b seen sound store next at lt fills =
     let in_frames : b < length s.frames = omega (arith, store.frames_long, lt) in
     let framed : frame_of new b ≡ Some fills.bytes = ap (λ (t : Store). frame_of t b) fills.is ∙ get_or-set_same s.frames b (Some fills.bytes) None in_frames in
@@ -30,14 +30,14 @@ shows_is T s new page b seen sound store next at lt fills =
       sound = (sound, next);
       was = at;
       block = ap (λ (t : Store). page_block t page) fills.is ∙ at;
-      below = omega (arith, ap blocks_of fills.is, lt);
+      below = omega (arith, ap block_count fills.is, lt);
       framed = (fills.bytes, framed);
       bytes = λ known. framed ∙ ap Some (fills.same known.told known.there);
       free = ap (λ (t : Store). t.free) fills.is;
       changed = ap (λ (t : Store). t.changed) fills.is;
     }
 
-pub ready_is : (T : Type 0) (s m n : Store) (page b0 b : ℕ) (seen : Image) → 0 < b0 → Shows T s m page b0 seen → IsStore m → page < blocks_of m → IsSound n.maps → Pays m n page b → Readies T s n page b seen
+pub ready_is : (T : Type 0) (s m n : Store) (page b0 b : ℕ) (seen : Image) → 0 < b0 → ShowsFrame T s m page b0 seen → IsStore m → page < block_count m → IsSoundMaps n.maps → Pays m n page b → Readies T s n page b seen
 ready_is T s m n page b0 b seen lives shown store below next (moves held free bytes frame put) =
     let sound = shown.sound.1 in
     let left = inr held in
@@ -53,7 +53,7 @@ ready_is T s m n page b0 b seen lives shown store below next (moves held free by
       some = omega (arith, (store.unused b free).0);
       below = omega (arith, lt, moved.keeps.area);
       framed = (bytes, frame_is);
-      bytes = λ known. frame_is ∙ sym frame ∙ ap (frame_of m) shown.block ∙ shown.bytes known ∙ ap (λ (x : ℕ). Some (bytes_of s seen x)) (sym shown.was);
+      bytes = λ known. frame_is ∙ sym frame ∙ ap (frame_of m) shown.block ∙ shown.bytes known ∙ ap (λ (x : ℕ). Some (block_bytes s seen x)) (sym shown.was);
       changed = ap (λ (t : Store). has_changed t b) put ∙ get_or-set_same m.changed b true false (omega (arith, store.changed_long, lt));
       still = λ c is. ap (λ (t : Store). has_changed t c) put ∙ set_stays m.changed b c (ap (λ (l : List Bool). get_or l c false) shown.changed ∙ is);
       owned = λ held_now. elim (held_back m n b moved.keeps held_now) [
@@ -74,9 +74,9 @@ ready_is T s m n page b0 b seen lives shown store below next (stays owned at put
       sound = (shown.sound.0, next);
       block = ap (λ (t : Store). page_block t page) put ∙ at;
       some = omega (arith, same, lives);
-      below = omega (arith, ap blocks_of put, same, shown.below);
+      below = omega (arith, ap block_count put, same, shown.below);
       framed = (shown.framed.0, frame_is ∙ shown.framed.1);
-      bytes = λ known. frame_is ∙ shown.bytes known ∙ ap (λ (x : ℕ). Some (bytes_of s seen x)) (sym shown.was);
+      bytes = λ known. frame_is ∙ shown.bytes known ∙ ap (λ (x : ℕ). Some (block_bytes s seen x)) (sym shown.was);
       changed = ap (λ (t : Store). has_changed t b) put ∙ get_or-set_same m.changed b true false lt;
       still = λ c is. ap (λ (t : Store). has_changed t c) put ∙ set_stays m.changed b c (ap (λ (l : List Bool). get_or l c false) shown.changed ∙ is);
       owned = λ held. owned_b (held_back m n b newer.keeps held);
@@ -122,10 +122,10 @@ few_apart (suc n) (suc k) f low apart =
     let less = drop_last f n k (λ p lt. omega (arith, low p (omega (arith, lt)))) (λ p q lp lq e. apart p q (omega (arith, lp)) (omega (arith, lq)) e) in
     omega (arith, few_apart n k less.0 less.1.0 less.1.1)
 
-pub not_all : (s : Store) → IsSound s.maps → ((p : ℕ) → p < blocks_of s → 0 < page_block s p) → ⊥
+pub not_all : (s : Store) → IsSoundMaps s.maps → ((p : ℕ) → p < block_count s → 0 < page_block s p) → ⊥
 not_all s sound all =
-    let high : (p : ℕ) → p < blocks_of s → 1 < page_block s p = λ p lt. sound.high (s.maps.conv + p) (page_block s p) (all p lt) (inl refl) in
-    let le = few_apart (blocks_of s) (blocks_of s - 2) (λ p. page_block s p - 2)
+    let high : (p : ℕ) → p < block_count s → 1 < page_block s p = λ p lt. sound.high (s.maps.conv + p) (page_block s p) (all p lt) (inl refl) in
+    let le = few_apart (block_count s) (block_count s - 2) (λ p. page_block s p - 2)
     (λ p lt. omega (arith, high p lt, (sound.present_small (s.maps.conv + p)).0))
     (λ p q lp lq e.
     let same : page_block s p ≡ page_block s q = omega (arith, e, high p lp, high q lq) in

@@ -1,7 +1,7 @@
 -- What the converter and a release leave of a store.
 use Rattle.std.proofs.Common.{◌≡◌, ◌⊎◌, inl, inr, ℕ, ◌+◌, ◌-◌, ◌<◌, ◌≤◌, List, length, Bool, true, false, Option, Some, None, refl, ap, sym, subst, ◌∙◌, arith}
 use Rattle.std.specs.Prelude.{unwrap_or, sum}
-use Rattle.std.proofs.lemmas.Bool.{cases_eq, cases_lt, false≢true}
+use Rattle.std.proofs.lemmas.Bool.{cases_eq, cases_lt, false≢true, false_from_ne_true}
 use Rattle.std.proofs.lemmas.List.{get_or_past}
 use Rattle.mdb_model.specs.declared.fault.Device.TheVariants.{Data}
 use Rattle.mdb_model.specs.Images.{Image}
@@ -9,18 +9,19 @@ use Rattle.mdb_host.specs.Disk.{Disk, Agree, Goes}
 use Rattle.free_blocks.specs.Free.{IsFree}
 use Rattle.free_blocks.specs.Marked.{IsMarked}
 use Rattle.mdb_bytes.specs.declared.converter_pages.ConverterEntry.{ConverterEntry}
-use Rattle.volume_disk.specs.Blocks.{IsSettled, Writes, place, block_at}
+use Rattle.mdb_bytes.specs.Firsts.{no_entry}
+use Rattle.volume_disk.specs.Blocks.{IsDurable, Writes, place, block_at}
 use Rattle.volume_disk.proofs.Pages.{page_agrees}
-use Rattle.converter.specs.Maps.{Maps, no_entry, entry_at, block_of, HasAt, IsUsed, IsSound, AreUnused, Leaves, Given, settled, own_of}
-use Rattle.converter.specs.Own.{OwnOnly, Fewer, Taken}
+use Rattle.converter.specs.Maps.{Maps, entry_at, block_of, HasAt, IsUsed, IsSoundMaps, AreUnused, Leaves, FreesLeaving, frozen_as_saved, own_of}
+use Rattle.converter.specs.Own.{OwnOnly, Fewer, TakesForFrozen}
 use Rattle.converter.specs.Tree.{HasTree}
-use Rattle.savepoint.specs.Stands.{Holds}
+use Rattle.savepoint.specs.Stands.{HoldsMap}
 use Rattle.converter.proofs.Sound.{none_there}
 use Rattle.page_store.specs.declared.store.FrameState.{FrameState}
-use Rattle.page_store.specs.Store.{Store, IsStore, IsKeptStore, IsKnown, PinMarks, store_of, blocks_of, frozen_block, frame_of, has_changed, bytes_of}
+use Rattle.page_store.specs.Store.{Store, IsStore, IsKeptStore, IsKnown, PinMarks, store_of, block_count, frozen_block, frame_of, has_changed, block_bytes}
 use Rattle.page_store.specs.LogicalPages.{has_block}
 use Rattle.page_store.specs.Steps.{OwnAsSaved, is_unwritten, HasPages}
-use Rattle.page_store.proofs.Answering.{not_true, block_true, block_some}
+use Rattle.page_store.proofs.Answering.{block_true, block_some}
 
 some_none : {A : Type 0} {x : A} → Some x ≡ None → ⊥
 some_none is = cc
@@ -29,7 +30,7 @@ block_same : (a b : List ConverterEntry) (q : ℕ) → entry_at a q ≡ entry_at
 block_same a b q same = ap (λ (e : ConverterEntry). e.block) same
 
 -- with a map frozen, the present map's own pages are the frozen map's
-own_frozen : (m : Maps) (n q : ℕ) → IsSound m → m.frozen_at ≡ Some n → q < m.conv → block_of m.present q ≡ block_of m.frozen q
+own_frozen : (m : Maps) (n q : ℕ) → IsSoundMaps m → m.frozen_at ≡ Some n → q < m.conv → block_of m.present q ≡ block_of m.frozen q
 own_frozen m n q sound at lt = block_same m.present m.frozen q (sound.own q lt ∙ ap (λ (o : Option ℕ). entry_at (own_of o m.saved m.frozen) q) at)
 
 -- what a changed frame is not
@@ -38,7 +39,7 @@ quiet_zero s store = ap (has_changed s) (sym (ap (λ (e : ConverterEntry). e.blo
 
 -- The converter took blocks for its own pages
 
-module _ (s : Store) (m : Maps) (f : List Bool) (n k : ℕ) (sound : IsSound s.maps) (next : IsSound m) (store : IsStore s) (own : OwnOnly s.maps m) (fewer : Fewer s.free f k) (unused : AreUnused m f) (taken : Taken 0 s.free f m)
+module _ (s : Store) (m : Maps) (f : List Bool) (n k : ℕ) (sound : IsSoundMaps s.maps) (next : IsSoundMaps m) (store : IsStore s) (own : OwnOnly s.maps m) (fewer : Fewer s.free f k) (unused : AreUnused m f) (taken : TakesForFrozen 0 s.free f m)
     (later : OwnAsSaved s.maps) (frozen : s.maps.frozen_at ≡ Some n) where
   -- what was used is used, or is an own page of the last savepoint's map
   used_after : (c q : ℕ) → HasAt s.maps q c → IsUsed m c
@@ -76,13 +77,13 @@ module _ (s : Store) (m : Maps) (f : List Bool) (n k : ℕ) (sound : IsSound s.m
   ]
 
   own_quiet : (q c : ℕ) → q < m.conv → block_of m.present q ≡ c → has_changed s c ≡ false
-  own_quiet q c lt at = not_true (has_changed s c) (λ newer.
+  own_quiet q c lt at = false_from_ne_true (has_changed s c) (λ newer.
       let some : 0 < c = elim (cases_eq c 0) [
         | inl none ↦ absurd (false≢true (sym (quiet_zero s store) ∙ ap (has_changed s) (sym none) ∙ newer))
         | inr other ↦ omega (arith, other)
       ] in
       let high = next.high q c some (inl at) in
-      let below : c < blocks_of s = omega (arith, at, (next.present_small q).0, own.area) in
+      let below : c < block_count s = omega (arith, at, (next.present_small q).0, own.area) in
       let free = store.freed c high below
       (λ used. elim (cases_lt used.0 s.maps.conv) [
         | inl own_lt ↦ false≢true (sym (own_has used.0 own_lt used.1) ∙ newer)
@@ -131,10 +132,10 @@ module _ (s : Store) (m : Maps) (f : List Bool) (n k : ℕ) (sound : IsSound s.m
 
 -- The frozen map became that of the last savepoint
 
-module _ (s : Store) (f : List Bool) (n : ℕ) (sound : IsSound s.maps) (store : IsStore s) (frozen : s.maps.frozen_at ≡ Some n) (written : (p : ℕ) → is_unwritten s p ≡ false)
-    (given : Given (Leaves s.maps s.marks) 0 (length s.maps.saved) s.free f) where
+module _ (s : Store) (f : List Bool) (n : ℕ) (sound : IsSoundMaps s.maps) (store : IsStore s) (frozen : s.maps.frozen_at ≡ Some n) (written : (p : ℕ) → is_unwritten s p ≡ false)
+    (given : FreesLeaving (Leaves s.maps s.marks) 0 (length s.maps.saved) s.free f) where
   abbrev after : Maps
-  after = settled s.maps
+  after = frozen_as_saved s.maps
 
   was_used : (c q : ℕ) → 0 < c → HasAt after q c → (block_of s.maps.present q ≡ c) ⊎ (block_of s.maps.frozen q ≡ c)
   was_used c q some has = elim has [
@@ -165,7 +166,7 @@ module _ (s : Store) (f : List Bool) (n : ℕ) (sound : IsSound s.maps) (store :
         )
   ]
 
-  settled_freed : (c : ℕ) → 1 < c → c < blocks_of s → (IsUsed after c → ⊥) → (IsMarked s.marks c → ⊥) → IsFree f c
+  settled_freed : (c : ℕ) → 1 < c → c < block_count s → (IsUsed after c → ⊥) → (IsMarked s.marks c → ⊥) → IsFree f c
   settled_freed c high lt isnt unmarked =
       elim (has_block s.maps.saved c) as (λ t. has_block s.maps.saved c ≡ t → IsFree f c) [
         | true ↦ λ has.
@@ -234,7 +235,7 @@ maps_kept maps free marks sizes frames states next pin room now v is m f long co
 
 -- After the sync each image has what stands on the frozen pages
 
-known_block : (T : Type 0) (s : Store) (seen : Image) (p : ℕ) → IsKnown T s seen → 0 < frozen_block s p → is_unwritten s p ≡ false → block_at s.sizes seen (frozen_block s p) ≡ bytes_of s seen (frozen_block s p)
+known_block : (T : Type 0) (s : Store) (seen : Image) (p : ℕ) → IsKnown T s seen → 0 < frozen_block s p → is_unwritten s p ≡ false → block_at s.sizes seen (frozen_block s p) ≡ block_bytes s seen (frozen_block s p)
 known_block T s seen p known some quiet =
     let b = frozen_block s p in
     elim (frame_of s b) as (λ (o : Option (List ℕ)). frame_of s b ≡ o → block_at s.sizes seen b ≡ unwrap_or o (block_at s.sizes seen b)) [
@@ -242,18 +243,18 @@ known_block T s seen p known some quiet =
       | Some x ↦ λ e. known.reads (s.maps.conv + p) b x (omega arith) some (inr (inr refl)) quiet e
     ] refl
 
-pub frozen_pages : (T : Type 0) (s : Store) (before after : Disk) → IsSound s.maps → IsStore s → (T → Agree before.seen after.seen) → (T → IsSettled s.sizes after) → IsKnown T s before.seen → ((p : ℕ) → is_unwritten s p ≡ false)
-    → (image : Image) → after.may_leave after.now image → HasPages s.sizes s.maps.frozen s.maps.conv (λ p. bytes_of s before.seen (frozen_block s p)) image
-frozen_pages T s before after sound store same settled known quiet image left p some =
+pub frozen_pages : (T : Type 0) (s : Store) (before after : Disk) → IsSoundMaps s.maps → IsStore s → (T → Agree before.seen after.seen) → (T → IsDurable s.sizes after) → IsKnown T s before.seen → ((p : ℕ) → is_unwritten s p ≡ false)
+    → (image : Image) → after.may_leave after.now image → HasPages s.sizes s.maps.frozen s.maps.conv (λ p. block_bytes s before.seen (frozen_block s p)) image
+frozen_pages T s before after sound store same frozen_as_saved known quiet image left p some =
     let b = frozen_block s p in
     let lt : b < sum s.sizes = omega (arith, store.blocks, (sound.frozen_small (s.maps.conv + p)).0) in
-    settled known.told image left b lt ∙ page_agrees before.seen after.seen (Data (place 1 s.sizes b).0) (place 1 s.sizes b).1 (same known.told (Data (place 1 s.sizes b).0)) ∙ known_block T s before.seen p known some (quiet p)
+    frozen_as_saved known.told image left b lt ∙ page_agrees before.seen after.seen (Data (place 1 s.sizes b).0) (place 1 s.sizes b).1 (same known.told (Data (place 1 s.sizes b).0)) ∙ known_block T s before.seen p known some (quiet p)
 
 -- The frozen map after its own pages were written
 
-pub holds_after : (s : Store) (m : Maps) (d0 d1 : Disk) → IsSound s.maps → IsStore s → OwnOnly s.maps m → Goes d0 d1 (Writes s.sizes (IsFree s.free)) → (pages : ℕ → List ℕ)
+pub holds_after : (s : Store) (m : Maps) (d0 d1 : Disk) → IsSoundMaps s.maps → IsStore s → OwnOnly s.maps m → Goes d0 d1 (Writes s.sizes (IsFree s.free)) → (pages : ℕ → List ℕ)
     → ((image : Image) → d0.may_leave d0.now image → HasPages s.sizes s.maps.frozen s.maps.conv pages image) → (image : Image) → d1.may_leave d1.now image → HasTree m.frozen m.conv (block_at s.sizes image)
-    → Holds s.sizes m.frozen m.conv pages image
+    → HoldsMap s.sizes m.frozen m.conv pages image
 holds_after s m d0 d1 sound store own goes pages has image left tree = record {
   tree = tree;
   page = λ p some.

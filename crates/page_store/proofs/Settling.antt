@@ -3,26 +3,29 @@ use Rattle.std.proofs.Common.{◌≡◌, inl, inr, ℕ, zero, suc, ◌+◌, ◌<
 use Rattle.std.specs.Prelude.{unwrap_or, sum, if◌then◌else◌}
 use Rattle.std.proofs.lemmas.Bool.{cases_eq, cases_lt, false≢true}
 use Rattle.std.proofs.lemmas.List.{get_or-set_same, get_or-set_other, get_or_past, set-get_or}
+use Rattle.std.proofs.lemmas.Option.{same_Some}
 use Rattle.mdb_model.specs.Images.{Image}
 use Rattle.mdb_host.specs.Disk.{Disk, Calls}
 use Rattle.mdb_host.proofs.Moments.{widen}
 use Rattle.mdb_bytes.specs.declared.converter_pages.ConverterEntry.{ConverterEntry}
+use Rattle.mdb_bytes.specs.Firsts.{no_entry}
 use Rattle.volume_disk.specs.Blocks.{Writes, IsArea, block_at}
 use Rattle.volume_disk.proofs.Writes.{writes_more, area_same}
-use Rattle.converter.specs.Maps.{Maps, no_entry, entry_at, block_of, HasAt, IsSound, own_of}
+use Rattle.converter.specs.Maps.{Maps, entry_at, block_of, HasAt, IsSoundMaps, own_of}
 use Rattle.page_store.specs.declared.store.FrameState.{FrameState}
 use Rattle.page_store.specs.declared.store.FrameState.TheVariants.{Absent, Same, Changed}
-use Rattle.page_store.specs.Store.{Store, IsStore, IsKeptStore, store_of, shown_frame, shown_frames, blocks_of, frozen_block, frame_of, has_changed, bytes_of}
-use Rattle.page_store.specs.Steps.{MayWrite, Keeps, Turned, TurnsPage, with_frame, frozen_now, is_unwritten, unwritten_below}
+use Rattle.page_store.specs.Store.{Store, IsStore, IsKeptStore, IsKnown, store_of, shown_frame, shown_frames, block_count, page_block, frozen_block, frame_of, has_changed, block_bytes}
+use Rattle.page_store.specs.Stamps.{stays_same}
+use Rattle.page_store.specs.Steps.{MayWrite, KeepsStore, CleansFrames, TurnsPage, with_frame, frozen_now, is_unwritten, unwritten_below}
 use Rattle.page_store.specs.StepLaws.{keeps_itself}
 use Rattle.page_store.proofs.Shown.{frame_is, seen_bytes, shown_state, shown_lent, state_set, changed_at, changed_is}
 use Rattle.page_store.proofs.Moves.{set_false}
-use Rattle.page_store.proofs.PageSteps.{some_same}
+use Rattle.page_store.proofs.PageSteps.{same_stamps}
 
 not_none : {A : Type 0} {x : A} → Some x ≡ None → ⊥
 not_none is = cc
 
-pub frozen_store : (s : Store) → IsSound s.maps → s.maps.frozen_at ≡ None → s.next + 1 < 2 ^ 62 → IsStore s → IsStore (frozen_now s)
+pub frozen_store : (s : Store) → IsSoundMaps s.maps → s.maps.frozen_at ≡ None → s.next + 1 < 2 ^ 62 → IsStore s → IsStore (frozen_now s)
 frozen_store s sound none small store = record {
   area = store.area;
   marks_long = store.marks_long;
@@ -62,7 +65,7 @@ frozen_store s sound none small store = record {
       ]
     ]
 
-pub as_saved : (m : Maps) → IsSound m → m.frozen_at ≡ None → (q : ℕ) → q < m.conv → entry_at m.present q ≡ entry_at m.saved q
+pub as_saved : (m : Maps) → IsSoundMaps m → m.frozen_at ≡ None → (q : ℕ) → q < m.conv → entry_at m.present q ≡ entry_at m.saved q
 as_saved m sound none q lt = sound.own q lt ∙ ap (λ (o : Option ℕ). entry_at (own_of o m.saved m.frozen) q) none
 
 -- a frame that its block has
@@ -161,7 +164,7 @@ module _ (maps : Maps) (free : List Bool) (marks : List (List Bool)) (sizes : Li
 -- Writing a frame
 
 -- the block of an unwritten page may be written
-pub unwritten_may : (s : Store) (page : ℕ) → IsSound s.maps → IsStore s → is_unwritten s page ≡ true → MayWrite s (frozen_block s page)
+pub unwritten_may : (s : Store) (page : ℕ) → IsSoundMaps s.maps → IsStore s → is_unwritten s page ≡ true → MayWrite s (frozen_block s page)
 unwritten_may s page sound store newer =
     let b = frozen_block s page in
     let some : 0 < b = elim (cases_eq b 0) [
@@ -178,7 +181,7 @@ unwritten_may s page sound store newer =
     past : block_of s.maps.saved (length s.maps.saved) ≡ 0
     past = ap (λ (e : ConverterEntry). e.block) (get_or_past s.maps.saved (length s.maps.saved) no_entry (omega arith))
 
-module _ (T : Type 0) (s : Store) (b : ℕ) (before after : Disk) (sound : IsSound s.maps) (store : IsStore s) (may : MayWrite s b) (newer : has_changed s b ≡ true) (calls : T → Calls before after (Writes s.sizes (λ c. c ≡ b))) where
+module _ (T : Type 0) (s : Store) (b : ℕ) (before after : Disk) (sound : IsSoundMaps s.maps) (store : IsStore s) (may : MayWrite s b) (newer : has_changed s b ≡ true) (calls : T → Calls before after (Writes s.sizes (λ c. c ≡ b))) where
   wider : (x y : Image) → Writes s.sizes (λ c. c ≡ b) x y → Writes s.sizes (MayWrite s) x y
   wider x y writes = writes_more s.sizes (λ c. c ≡ b) (MayWrite s) x y (λ k is. subst (λ (c : ℕ). MayWrite s c) (sym is) may) writes
 
@@ -194,17 +197,21 @@ module _ (T : Type 0) (s : Store) (b : ℕ) (before after : Disk) (sound : IsSou
     ]
   ]
 
-  same_bytes : T → (q : ℕ) → bytes_of s after.seen (frozen_block s q) ≡ bytes_of s before.seen (frozen_block s q)
-  same_bytes told q = elim (cases_eq (frozen_block s q) b) [
+  -- what stands on the blocks of a map
+  same_bytes : T → (q c : ℕ) → HasAt s.maps q c → block_bytes s after.seen c ≡ block_bytes s before.seen c
+  same_bytes told q c has = elim (cases_eq c b) [
     | inl at ↦
         let framed = store.framed b newer in
-        let there : frame_of s (frozen_block s q) ≡ Some framed.0 = ap (frame_of s) at ∙ framed.1 in
-        ap (λ (o : Option (List ℕ)). unwrap_or o (block_at s.sizes after.seen (frozen_block s q))) there ∙ sym (ap (λ (o : Option (List ℕ)). unwrap_or o (block_at s.sizes before.seen (frozen_block s q))) there)
-    | inr other ↦ ap (λ (l : List ℕ). unwrap_or (frame_of s (frozen_block s q)) l) ((calls told).seen.outside (frozen_block s q) (small_block (s.maps.conv + q) (frozen_block s q) (inr (inr refl))) other)
+        let there : frame_of s c ≡ Some framed.0 = ap (frame_of s) at ∙ framed.1 in
+        ap (λ (o : Option (List ℕ)). unwrap_or o (block_at s.sizes after.seen c)) there ∙ sym (ap (λ (o : Option (List ℕ)). unwrap_or o (block_at s.sizes before.seen c)) there)
+    | inr other ↦ ap (λ (l : List ℕ). unwrap_or (frame_of s c) l) ((calls told).seen.outside c (small_block q c has) other)
   ]
 
+  same_page : (page : ℕ) → IsKnown T s before.seen → block_bytes s after.seen (page_block s page) ≡ block_bytes s before.seen (page_block s page)
+  same_page page known = same_bytes known.told (s.maps.conv + page) (page_block s page) (inl refl)
+
   -- it failed: the block may hold anything
-  pub wrote_not : Keeps T s s before after
+  pub wrote_not : KeepsStore T s s before after
   wrote_not = record {
     maps = record { conv = refl; saved = refl; frozen = refl; frozen_at = refl; area = refl; marks = refl; sizes = refl; next = refl; pinned = refl; written = λ c kept is. is };
     goes = λ told. widen before after _ _ (calls told).goes (λ x y left writes. wider x y writes);
@@ -215,12 +222,13 @@ module _ (T : Type 0) (s : Store) (b : ℕ) (before after : Disk) (sound : IsSou
           (calls known.told).seen.outside c (small_block q c has) (λ is. false≢true (sym same ∙ ap (has_changed s) is ∙ newer)) ∙ known.reads q c x le some has same frame;
       there = there_after known.told known.there;
     };
-    bytes = λ known q some. same_bytes known.told q;
+    bytes = λ known q some. same_bytes known.told (s.maps.conv + q) (frozen_block s q) (inr (inr refl));
     room = λ fits. fits;
+    stamps = λ is. (is, λ page. stays_same refl (same_page page));
   }
 
   -- it was done
-  pub wrote_one : (T → frame_of s b ≡ Some (block_at s.sizes after.seen b)) → Keeps T s (quiet_at s b) before after
+  pub wrote_one : (T → frame_of s b ≡ Some (block_at s.sizes after.seen b)) → KeepsStore T s (quiet_at s b) before after
   wrote_one written = record {
     maps = record { conv = refl; saved = refl; frozen = refl; frozen_at = refl; area = refl; marks = refl; sizes = refl; next = refl; pinned = refl; written = λ c kept is. quiet_all s.changed b c is };
     goes = wrote_not.goes;
@@ -228,15 +236,16 @@ module _ (T : Type 0) (s : Store) (b : ℕ) (before after : Disk) (sound : IsSou
     known = λ known. record {
       told = known.told;
       reads = λ q c x le some has same frame. elim (cases_eq c b) [
-        | inl at ↦ ap (block_at s.sizes after.seen) at ∙ some_same _ _ (sym (written known.told) ∙ ap (frame_of s) (sym at) ∙ frame)
+        | inl at ↦ ap (block_at s.sizes after.seen) at ∙ same_Some _ _ (sym (written known.told) ∙ ap (frame_of s) (sym at) ∙ frame)
         | inr other ↦
             (calls known.told).seen.outside c (small_block q c has) other
             ∙ known.reads q c x le some has (sym (get_or-set_other s.changed b c false false other) ∙ same) frame
       ];
       there = there_after known.told known.there;
     };
-    bytes = λ known q some. same_bytes known.told q;
+    bytes = λ known q some. same_bytes known.told (s.maps.conv + q) (frozen_block s q) (inr (inr refl));
     room = λ fits. fits;
+    stamps = λ is. (same_stamps s (quiet_at s b) refl refl refl is, λ page. stays_same refl (same_page page));
   }
 
 -- One page after the other
@@ -244,7 +253,7 @@ module _ (T : Type 0) (s : Store) (b : ℕ) (before after : Disk) (sound : IsSou
 pub turns_none : (T : Type 0) (s : Store) (d : Disk) (page : ℕ) → TurnsPage T s s d d page
 turns_none T s d page = record { turned = record { same = refl; only = λ b is. is }; keeps = keeps_itself T s d; others = λ p away. refl }
 
-module _ (T : Type 0) (s : Store) (page b : ℕ) (before after : Disk) (sound : IsSound s.maps) (store : IsStore s) (at : b ≡ frozen_block s page) (newer : has_changed s b ≡ true)
+module _ (T : Type 0) (s : Store) (page b : ℕ) (before after : Disk) (sound : IsSoundMaps s.maps) (store : IsStore s) (at : b ≡ frozen_block s page) (newer : has_changed s b ≡ true)
     (calls : T → Calls before after (Writes s.sizes (λ c. c ≡ b))) where
   may_b : MayWrite s b
   may_b = subst (λ (x : ℕ). MayWrite s x) (sym at) (unwritten_may s page sound store (ap (has_changed s) (sym at) ∙ newer))
@@ -293,13 +302,13 @@ none_below s (suc n) k none lt = elim (cases_eq k n) [
   | inr other ↦ none_below s n k (omega (arith, none)) (omega (arith, lt, other))
 ]
 
-pub none_past : (s : Store) (k : ℕ) → IsSound s.maps → IsStore s → blocks_of s ≤ k → is_unwritten s k ≡ false
+pub none_past : (s : Store) (k : ℕ) → IsSoundMaps s.maps → IsStore s → block_count s ≤ k → is_unwritten s k ≡ false
 none_past s k sound store le =
     let none : frozen_block s k ≡ 0 = ap (λ (e : ConverterEntry). e.block) (get_or_past s.maps.frozen (s.maps.conv + k) no_entry (omega (arith, sound.frozen_long, le))) in
     let past : block_of s.maps.saved (length s.maps.saved) ≡ 0 = ap (λ (e : ConverterEntry). e.block) (get_or_past s.maps.saved (length s.maps.saved) no_entry (omega arith)) in
     ap (has_changed s) (none ∙ sym past) ∙ store.saved_same (length s.maps.saved)
 
-pub turned_on : (a b c : Store) → Turned a b → Turned b c → Turned a c
+pub turned_on : (a b c : Store) → CleansFrames a b → CleansFrames b c → CleansFrames a c
 turned_on a b c one two = record {
   same = two.same ∙ ap (λ (s : Store). record s { changed = c.changed }) one.same;
   only = λ x is. one.only x (two.only x is);

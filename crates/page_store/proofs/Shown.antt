@@ -6,7 +6,7 @@ use Rattle.page_store.specs.declared.store.FrameState.{FrameState}
 use Rattle.page_store.specs.declared.store.FrameState.TheVariants.{Absent, Same, Changed}
 use Rattle.mdb_bytes.specs.declared.converter_pages.ConverterEntry.{ConverterEntry}
 use Rattle.converter.specs.Maps.{Maps}
-use Rattle.page_store.specs.Store.{Store, IsStore, IsKeptStore, store_of, shown_frame, shown_frames, is_changed, blocks_of, frame_of, has_changed}
+use Rattle.page_store.specs.Store.{Store, IsStore, IsKeptStore, store_of, shown_frame, shown_frames, is_changed_frame, block_count, frame_of, has_changed}
 
 pub length_shown : (states : List FrameState) (frames : List (List ℕ)) → length frames ≡ length states → length (shown_frames states frames) ≡ length states
 length_shown [] frames e = refl
@@ -44,26 +44,26 @@ pub shown_state : (states : List FrameState) (frames : List (List ℕ)) (b : ℕ
 shown_state states frames b state =
     ap (λ (l : List (List ℕ)). shown_frames (set states b state) l) (sym (set-get_or frames b [])) ∙ shown_set states frames b state (get_or frames b [])
 
-pub changed_at : (states : List FrameState) (b : ℕ) → get_or (map is_changed states) b false ≡ is_changed (get_or states b Absent)
+pub changed_at : (states : List FrameState) (b : ℕ) → get_or (map is_changed_frame states) b false ≡ is_changed_frame (get_or states b Absent)
 changed_at [] b = refl
 changed_at (s ∷ ss) zero = refl
 changed_at (s ∷ ss) (suc b) = changed_at ss b
 
-pub changed_is : (state : FrameState) → is_changed state ≡ true → state ≡ Changed
+pub changed_is : (state : FrameState) → is_changed_frame state ≡ true → state ≡ Changed
 changed_is Absent is = absurd (false≢true is)
 changed_is Same is = absurd (false≢true is)
 changed_is Changed is = refl
 
 -- the same state was set again
-pub unchanged : (states : List FrameState) (b : ℕ) (state : FrameState) → is_changed (get_or states b Absent) ≡ is_changed state → map is_changed (set states b state) ≡ map is_changed states
+pub unchanged : (states : List FrameState) (b : ℕ) (state : FrameState) → is_changed_frame (get_or states b Absent) ≡ is_changed_frame state → map is_changed_frame (set states b state) ≡ map is_changed_frame states
 unchanged states b state same =
-    map-set is_changed states b state ∙ ap (λ (x : Bool). set (map is_changed states) b x) (sym same ∙ sym (changed_at states b)) ∙ set-get_or (map is_changed states) b false
+    map-set is_changed_frame states b state ∙ ap (λ (x : Bool). set (map is_changed_frame states) b x) (sym same ∙ sym (changed_at states b)) ∙ set-get_or (map is_changed_frame states) b false
 
-pub state_set : (states : List FrameState) (b : ℕ) (state : FrameState) → map is_changed (set states b state) ≡ set (map is_changed states) b (is_changed state)
-state_set states b state = map-set is_changed states b state
+pub state_set : (states : List FrameState) (b : ℕ) (state : FrameState) → map is_changed_frame (set states b state) ≡ set (map is_changed_frame states) b (is_changed_frame state)
+state_set states b state = map-set is_changed_frame states b state
 
 -- a block with a newer frame is one of the area
-pub changed_below : (s : Store) (c : ℕ) → IsStore s → has_changed s c ≡ true → c < blocks_of s
+pub changed_below : (s : Store) (c : ℕ) → IsStore s → has_changed s c ≡ true → c < block_count s
 changed_below s c store is = elim (cases_lt c (length s.changed)) [
   | inl lt ↦ omega (arith, store.changed_long, lt)
   | inr past ↦ absurd (false≢true (sym (get_or_past s.changed c false past) ∙ is))
@@ -98,7 +98,7 @@ set_frame_store s b frame store there = record {
   pins = store.pins;
 }
 
-shown_there : (state : FrameState) (bytes : List ℕ) → is_changed state ≡ true → (x : List ℕ) × (shown_frame state bytes ≡ Some x)
+shown_there : (state : FrameState) (bytes : List ℕ) → is_changed_frame state ≡ true → (x : List ℕ) × (shown_frame state bytes ≡ Some x)
 shown_there Absent bytes is = absurd (false≢true is)
 shown_there Same bytes is = absurd (false≢true is)
 shown_there Changed bytes is = (bytes, refl)
@@ -129,7 +129,7 @@ module _ (maps : Maps) (free : List Bool) (marks : List (List Bool)) (sizes : Li
           ∙ ap (λ (l : List (List ℕ)). shown_frames states l) (set-get_or frames b [])
 
   -- the frame was filled
-  pub seen_filled : is_changed state ≡ false → store_of maps free marks sizes (set frames b bytes) (set states b Same) next pin room ≡ record kept { frames = set kept.frames b (Some bytes) }
+  pub seen_filled : is_changed_frame state ≡ false → store_of maps free marks sizes (set frames b bytes) (set states b Same) next pin room ≡ record kept { frames = set kept.frames b (Some bytes) }
   seen_filled same = λ i. record kept { frames = shown_set states frames b Same bytes i; changed = unchanged states b Same same i }
 
   -- the frame was written
@@ -148,7 +148,7 @@ module _ (maps : Maps) (free : List Bool) (marks : List (List Bool)) (sizes : Li
       room_long = is.room_long;
     }
 
-    pub kept_filled : is_changed state ≡ false → IsKeptStore maps free marks sizes (set frames b bytes) (set states b Same) next pin room
+    pub kept_filled : is_changed_frame state ≡ false → IsKeptStore maps free marks sizes (set frames b bytes) (set states b Same) next pin room
     kept_filled same = record {
       store = subst IsStore (sym (seen_filled same)) (set_frame_store kept b (Some bytes) is.store (λ changed. (bytes, refl)));
       frames_long = frames_set;

@@ -1,6 +1,9 @@
 pub mod Store
 pub mod LogicalPages
+pub mod Stamps
 pub mod Steps
 pub mod StepLaws
 pub mod Opens
 pub mod Pins
+pub mod WholeSavepoint
+pub mod SavingStays

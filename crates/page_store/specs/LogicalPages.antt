@@ -1,5 +1,5 @@
 -- The pages of a store as a finite map.
---     pages_below, pages_of      the bytes of each live page
+--     live_pages_below, store_pages      the bytes of each live page
 --     is_held, is_owned, paid_pages      the live pages whose block is not kept
 use Rattle.std.specs.Prelude.{ℕ, ◌==◌, ◌&&◌, ◌||◌, if◌then◌else◌}
 use Rattle.std.specs.Prelude.{zero, suc, List, Bool, not, nat_lt}
@@ -9,22 +9,23 @@ use Rattle.std.specs.FinSet as set
 use Rattle.mdb_model.specs.Images.{Image}
 use Rattle.mdb_bytes.specs.declared.converter_pages.ConverterEntry.{ConverterEntry}
 use Rattle.mdb_bytes.specs.Paged.{PageBytes, PaidPages}
-use Rattle.page_store.specs.Store.{Store, blocks_of, page_block, bytes_of, is_marked}
+use Rattle.page_store.specs.Store.{Store, block_count, page_block, block_bytes, is_marked}
 
 -- the pages below n that live, with their bytes
-abbrev pub pages_below : (lives : ℕ → Bool) (bytes : ℕ → List ℕ) → ℕ → PageBytes
-pages_below lives bytes zero = empty
-pages_below lives bytes (suc n) =
-    if lives n then insert (pages_below lives bytes n) n (bytes n) else pages_below lives bytes n
+abbrev pub live_pages_below : (lives : ℕ → Bool) (bytes : ℕ → List ℕ) → ℕ → PageBytes
+live_pages_below lives bytes zero = empty
+live_pages_below lives bytes (suc n) =
+    if lives n then insert (live_pages_below lives bytes n) n (bytes n)
+    else live_pages_below lives bytes n
 
 -- the page lives
 abbrev pub lives_in : Store → ℕ → Bool
 lives_in s page = nat_lt 0 (page_block s page)
 
 -- the bytes of each live page: what stands on its block
-abbrev pub pages_of : Store → Image → PageBytes
-pages_of s seen =
-    pages_below (lives_in s) (λ page. bytes_of s seen (page_block s page)) (blocks_of s)
+abbrev pub store_pages : Store → Image → PageBytes
+store_pages s seen =
+    live_pages_below (lives_in s) (λ page. block_bytes s seen (page_block s page)) (block_count s)
 
 -- the map has this block
 abbrev pub has_block : List ConverterEntry → ℕ → Bool
@@ -46,4 +47,4 @@ numbers_below test (suc n) =
 
 -- the pages to which a write needs no new block
 abbrev pub paid_pages : Store → PaidPages
-paid_pages s = numbers_below (is_owned s) (blocks_of s)
+paid_pages s = numbers_below (is_owned s) (block_count s)

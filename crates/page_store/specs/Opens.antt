@@ -1,7 +1,7 @@
 -- What opening a store answers.
 --     FreesUnused      which blocks are free at first
---     IsOpened      the store as it is opened
---     OpensTells, opening_fault      what a fault says of the bytes
+--     IsStoreOpened      the store as it is opened
+--     OpenFaultReports, opening_fault      what a fault says of the bytes
 --     own_pages      the pages of the converter
 use Rattle.std.specs.Prelude.{◌≡◌, ℕ, ◌+◌, ◌/◌, ◌<◌}
 use Rattle.std.specs.Prelude.{List, Bool, false, length, replicate, sum, None}
@@ -23,7 +23,7 @@ pub record FreesUnused (m : Maps) (blocks : ℕ) (flags : List Bool) : Type 0 wh
 
 -- The present map is that of the last savepoint. No block has a frame or a mark, and no map is
 -- pinned.
-pub record IsOpened (s : Store) (sizes : List ℕ) (savepoint : ℕ) : Type 0 where
+pub record IsStoreOpened (s : Store) (sizes : List ℕ) (savepoint : ℕ) : Type 0 where
   pub maps : s.maps
       ≡ record (empty_maps (sum sizes) s.maps.owner)
       { present = s.maps.saved; saved = s.maps.saved }
@@ -35,10 +35,10 @@ pub record IsOpened (s : Store) (sizes : List ℕ) (savepoint : ℕ) : Type 0 wh
   pub next : s.next ≡ savepoint + 1
   pub pinned : s.pinned ≡ None
 
-abbrev pub OpensTells : (Damage → Type 0) → OpenFault → Type 0
-OpensTells broken Memory = Unit {0}
-OpensTells broken Failed = Unit {0}
-OpensTells broken (Damaged damage) = broken damage
+abbrev pub OpenFaultReports : (Damage → Type 0) → OpenFault → Type 0
+OpenFaultReports broken Memory = Unit {0}
+OpenFaultReports broken Failed = Unit {0}
+OpenFaultReports broken (Damaged damage) = broken damage
 
 -- the fault of an opening that a fault of pages is
 abbrev pub opening_fault : PageFault → OpenFault

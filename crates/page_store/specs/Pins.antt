@@ -22,13 +22,14 @@ pub record MarksAlso (m : List ConverterEntry) (n : ℕ) (old new : List (List B
   pub only : (b i : ℕ) → HasMark new b i
       → HasMark old b i ⊎ ((i ≡ 0) × (0 < b) × ((q : ℕ) × (block_of m q ≡ b)))
 
--- mark 0 was taken from the blocks that a map has on its first n places, and no mark was set
+-- mark 0 was taken from the blocks that a map has on its first n places, and nothing else changed
 pub record UnmarksThese (m : List ConverterEntry) (n : ℕ)
     (old new : List (List Bool)) : Type 0 where
   pub long : length new ≡ length old
   pub sixteen : AreSixteen new
   pub taken : (q : ℕ) → q < n → 0 < block_of m q → HasMark new (block_of m q) 0 → ⊥
   pub only : (b i : ℕ) → HasMark new b i → HasMark old b i
+  pub stays : (b i : ℕ) → 0 < i → HasMark old b i → HasMark new b i
 
 -- the blocks that a map has on its first n places were freed where no kept or present map has
 -- them and they have no mark, and no others

@@ -1,6 +1,7 @@
 -- Calls one after the other.
 --     keeps_same, kept_on, keeps_on      of the kept maps
 --     may_before, keeps_itself, keeps_further      of the devices
+--     page_steps_on      of a page
 use Rattle.std.proofs.Common.{◌≡◌, ℕ, ◌+◌, ◌∙◌}
 use Rattle.std.proofs.Common.{inl, inr, List, Bool, true, false, refl, ap, sym, subst, arith}
 use Rattle.mdb_model.specs.Images.{Image}
@@ -11,8 +12,9 @@ use Rattle.free_blocks.specs.Marked.{IsMarked}
 use Rattle.volume_disk.specs.Blocks.{Writes}
 use Rattle.volume_disk.proofs.Writes.{writes_none, writes_on, writes_more}
 use Rattle.converter.specs.Maps.{block_of, IsKept}
-use Rattle.page_store.specs.Store.{Store, frozen_block, has_changed, bytes_of}
-use Rattle.page_store.specs.Steps.{KeepsMaps, MayWrite, Keeps}
+use Rattle.page_store.specs.Store.{Store, frozen_block, has_changed, block_bytes}
+use Rattle.page_store.specs.Stamps.{AreStamped, PageStep, stays_same, is_newest, is_dead}
+use Rattle.page_store.specs.Steps.{KeepsMaps, MayWrite, KeepsStore}
 
 pub keeps_same : (s : Store) → KeepsMaps s s
 keeps_same s =
@@ -69,7 +71,20 @@ may_before a b x keeps may = record {
       ] refl;
 }
 
-pub keeps_itself : (T : Type 0) (s : Store) (d : Disk) → Keeps T s s d d
+-- a page after two calls
+pub page_steps_on : (known mid : Type 0) (a b c : Store) (x y z : Image) (page : ℕ)
+    → b.next ≡ a.next → (known → mid) → PageStep known a b x y page → PageStep mid b c y z page
+    → PageStep known a c x z page
+page_steps_on known mid a b c x y z page next on one (is_newest at) = is_newest (at ∙ next)
+page_steps_on known mid a b c x y z page next on one (is_dead none) = is_dead none
+page_steps_on known mid a b c x y z page next on (stays_same entry bytes) (stays_same last more) =
+    stays_same (last ∙ entry) (λ is. more (on is) ∙ bytes is)
+page_steps_on known mid a b c x y z page next on (is_newest at) (stays_same last more) =
+    is_newest (ap (λ (e : ConverterEntry). e.stamp) last ∙ at)
+page_steps_on known mid a b c x y z page next on (is_dead none) (stays_same last more) =
+    is_dead (ap (λ (e : ConverterEntry). e.block) last ∙ none)
+
+pub keeps_itself : (T : Type 0) (s : Store) (d : Disk) → KeepsStore T s s d d
 keeps_itself T s d = record {
   maps = keeps_same s;
   goes = λ told. stays d (Writes s.sizes (MayWrite s)) (writes_none s.sizes (MayWrite s));
@@ -77,10 +92,11 @@ keeps_itself T s d = record {
   known = λ known. known;
   bytes = λ known q some. refl;
   room = λ le. le;
+  stamps = λ is. (is, λ page. stays_same refl (λ known. refl));
 }
 
-pub keeps_further : (T : Type 0) (a b c : Store) (d0 d1 d2 : Disk) → Keeps T a b d0 d1
-    → Keeps T b c d1 d2 → Keeps T a c d0 d2
+pub keeps_further : (T : Type 0) (a b c : Store) (d0 d1 d2 : Disk) → KeepsStore T a b d0 d1
+    → KeepsStore T b c d1 d2 → KeepsStore T a c d0 d2
 keeps_further T a b c d0 d1 d2 one two =
     let wider : (x y : Image) → Writes b.sizes (MayWrite b) x y → Writes a.sizes (MayWrite a) x y =
     λ x y w. writes_more a.sizes (MayWrite b) (MayWrite a) x y
@@ -98,8 +114,15 @@ keeps_further T a b c d0 d1 d2 one two =
       bytes = λ known q some.
           let e : frozen_block b q ≡ frozen_block a q =
           λ i. block_of (one.maps.frozen i) (one.maps.conv i + q) in
-          subst (λ (x : ℕ). bytes_of c d2.seen x ≡ bytes_of b d1.seen x) e
+          subst (λ (x : ℕ). block_bytes c d2.seen x ≡ block_bytes b d1.seen x) e
           (two.bytes (one.known known) q (omega (arith, e, some)))
           ∙ one.bytes known q some;
       room = λ le. two.room (one.room le);
+      stamps = λ is.
+          let first = one.stamps is in
+          let last = two.stamps first.0 in (
+            last.0,
+            λ page. page_steps_on _ _ a b c d0.seen d1.seen d2.seen page one.maps.next one.known
+                (first.1 page) (last.1 page),
+          );
     }

@@ -1,24 +1,26 @@
 -- What calls do to a store.
 --     KeepsMaps      the kept maps stay
 --     MayWrite      the blocks that a call on pages may write
---     Keeps      the same of the devices
+--     KeepsStore      the same of the devices
 --     OnePage      everything but one page stays
---     Fills, Shows, Pays, Readies, GivesUp, MakesPage      a frame is filled; a page has a block of
---         its own, is given up, comes to be
+--     Fills, ShowsFrame, Pays, Readies, GivesUp, MakesPage      a frame is filled; a page has a
+--         block of its own, is given up, comes to be
 --     ReadiesBoth, KeepsPages, EditsBoth      of two pages
 --     with_frame, moved_to, newer_at, without_page, given_block      stores after a call
---     is_unwritten, unwritten, frozen_now, OwnAsSaved, HasPages, Turned      of a savepoint
+--     is_unwritten, unwritten, frozen_now, OwnAsSaved, HasPages, CleansFrames      of a savepoint
 use Rattle.std.specs.Prelude.{◌≡◌, ◌≢◌, ◌⊎◌, ℕ, ◌+◌, ◌<◌, ◌≤◌, if◌then◌else◌}
 use Rattle.std.specs.Prelude.{zero, suc, List, replicate, slice_set, Bool, true, false, Some, None}
 use Rattle.mdb_model.specs.Images.{Image}
 use Rattle.mdb_host.specs.Disk.{Disk, Goes}
 use Rattle.mdb_bytes.specs.declared.converter_pages.ConverterEntry.{ConverterEntry}
+use Rattle.mdb_bytes.specs.Firsts.{no_entry}
 use Rattle.free_blocks.specs.Free.{IsFree, free_count}
 use Rattle.free_blocks.specs.Marked.{IsMarked}
 use Rattle.volume_disk.specs.Blocks.{IsArea, Writes, block_at}
-use Rattle.converter.specs.Maps.{Maps, IsSound, no_entry, entry_at, block_of, IsKept}
-use Rattle.page_store.specs.Store.{Store, blocks_of, page_block, frozen_block, frame_of}
-use Rattle.page_store.specs.Store.{has_changed, bytes_of, IsHeld, IsKnown}
+use Rattle.converter.specs.Maps.{Maps, IsSoundMaps, entry_at, block_of, IsKept}
+use Rattle.page_store.specs.Store.{Store, block_count, page_block, frozen_block, frame_of}
+use Rattle.page_store.specs.Store.{has_changed, block_bytes, IsHeld, IsKnown}
+use Rattle.page_store.specs.Stamps.{page_entry, AreStamped, PageStep}
 
 -- The kept maps are as they were, and the blocks that were written are so still.
 pub record KeepsMaps (old new : Store) : Type 0 where
@@ -26,7 +28,7 @@ pub record KeepsMaps (old new : Store) : Type 0 where
   pub saved : new.maps.saved ≡ old.maps.saved
   pub frozen : new.maps.frozen ≡ old.maps.frozen
   pub frozen_at : new.maps.frozen_at ≡ old.maps.frozen_at
-  pub area : blocks_of new ≡ blocks_of old
+  pub area : block_count new ≡ block_count old
   pub marks : new.marks ≡ old.marks
   pub sizes : new.sizes ≡ old.sizes
   pub next : new.next ≡ old.next
@@ -42,28 +44,38 @@ pub record MayWrite (s : Store) (b : ℕ) : Type 0 where
   pub unwritten : (q : ℕ) → block_of s.maps.frozen q ≡ b → has_changed s b ≡ true
 
 -- The kept maps stay, with what stands on their blocks. At each moment only blocks were written
--- that may be, and nothing else of the devices. A savepoint that fitted does so still.
-pub record Keeps (tells : Type 0) (old new : Store) (before after : Disk) : Type 0 where
+-- that may be, and nothing else of the devices. A savepoint that fitted does so still. Where the
+-- pages were stamped they are so still, and each page that changed carries the next savepoint's
+-- number.
+pub record KeepsStore (tells : Type 0) (old new : Store) (before after : Disk) : Type 0 where
   pub maps : KeepsMaps old new
   pub goes : tells → Goes before after (Writes old.sizes (MayWrite old))
   pub seen : tells → Writes old.sizes (MayWrite old) before.seen after.seen
   pub known : IsKnown tells old before.seen → IsKnown tells new after.seen
   pub bytes : IsKnown tells old before.seen → (q : ℕ) → 0 < frozen_block old q
-      → bytes_of new after.seen (frozen_block old q) ≡ bytes_of old before.seen (frozen_block old q)
+      → block_bytes new after.seen (frozen_block old q)
+      ≡ block_bytes old before.seen (frozen_block old q)
   pub room : old.maps.conv ≤ free_count old.free → new.maps.conv ≤ free_count new.free
+  pub stamps : AreStamped old
+      → AreStamped new
+      × ((page : ℕ)
+      → PageStep (IsKnown tells old before.seen) old new before.seen after.seen page)
 
 -- the block is kept, or another page than this one has it
 abbrev pub IsElse : Store → ℕ → ℕ → Type 0
 IsElse s page b = (0 < b) × (IsHeld s b ⊎ ((p : ℕ) × (p ≢ page) × (page_block s p ≡ b)))
 
--- Everything but one page stays: the kept maps, which pages live, what stands on them, and that it
--- is known.
+-- Everything but one page stays: the kept maps, the entries of the pages, what stands on them, and
+-- that it is known. Where the pages were stamped they are so still, and the page carries the next
+-- savepoint's number where it changed.
 pub record OnePage (tells : Type 0) (old new : Store) (page : ℕ) (seen : Image) : Type 0 where
   pub keeps : KeepsMaps old new
-  pub others : (p : ℕ) → p ≢ page → page_block new p ≡ page_block old p
+  pub others : (p : ℕ) → p ≢ page → page_entry new p ≡ page_entry old p
   pub known : IsKnown tells old seen → IsKnown tells new seen
   pub elsewhere : IsKnown tells old seen → (b : ℕ) → IsElse old page b
-      → bytes_of new seen b ≡ bytes_of old seen b
+      → block_bytes new seen b ≡ block_bytes old seen b
+  pub stamped : AreStamped old → AreStamped new
+  pub here : AreStamped old → PageStep (IsKnown tells old seen) old new seen seen page
 
 -- the frame of a block has these bytes
 abbrev pub with_frame : Store → ℕ → List ℕ → Store
@@ -73,7 +85,7 @@ with_frame s b bytes = record s { frames = slice_set s.frames b (Some bytes) }
 pub record Fills (tells : Type 0) (old new : Store) (b : ℕ) (seen : Image) : Type 0 where
   pub bytes : List ℕ
   pub is : new ≡ with_frame old b bytes
-  pub same : tells → IsArea old.sizes seen → bytes ≡ bytes_of old seen b
+  pub same : tells → IsArea old.sizes seen → bytes ≡ block_bytes old seen b
 
 -- the page has block b, which was free, with these bytes in its frame, which are newer
 abbrev pub moved_to : Store → (page b : ℕ) → List ℕ → Store
@@ -122,14 +134,14 @@ pub data GivesUp (old new : Store) (page : ℕ) : Type 0 where
       → new ≡ given_block (without_page old page) (page_block old page) → GivesUp old new page
 
 -- the block of the page has a frame, with what stands on the page
-pub record Shows (tells : Type 0) (old new : Store) (page b : ℕ) (seen : Image) : Type 0 where
+pub record ShowsFrame (tells : Type 0) (old new : Store) (page b : ℕ) (seen : Image) : Type 0 where
   pub step : OnePage tells old new page seen
-  pub sound : IsSound old.maps × IsSound new.maps
+  pub sound : IsSoundMaps old.maps × IsSoundMaps new.maps
   pub was : page_block old page ≡ b
   pub block : page_block new page ≡ b
-  pub below : b < blocks_of new
+  pub below : b < block_count new
   pub framed : (bytes : List ℕ) × (frame_of new b ≡ Some bytes)
-  pub bytes : IsKnown tells old seen → frame_of new b ≡ Some (bytes_of old seen b)
+  pub bytes : IsKnown tells old seen → frame_of new b ≡ Some (block_bytes old seen b)
   pub free : new.free ≡ old.free
   pub changed : new.changed ≡ old.changed
 
@@ -137,13 +149,13 @@ pub record Shows (tells : Type 0) (old new : Store) (page b : ℕ) (seen : Image
 -- block. A free block was taken at most where its block was kept.
 pub record Readies (tells : Type 0) (old new : Store) (page b : ℕ) (seen : Image) : Type 0 where
   pub step : OnePage tells old new page seen
-  pub sound : IsSound old.maps × IsSound new.maps
+  pub sound : IsSoundMaps old.maps × IsSoundMaps new.maps
   pub block : page_block new page ≡ b
   pub some : 0 < b
-  pub below : b < blocks_of new
+  pub below : b < block_count new
   pub framed : (bytes : List ℕ) × (frame_of new b ≡ Some bytes)
   pub bytes : IsKnown tells old seen
-      → frame_of new b ≡ Some (bytes_of old seen (page_block old page))
+      → frame_of new b ≡ Some (block_bytes old seen (page_block old page))
   pub changed : has_changed new b ≡ true
   pub still : (c : ℕ) → has_changed old c ≡ true → has_changed new c ≡ true
   pub owned : IsHeld new b → ⊥
@@ -161,10 +173,10 @@ pub record ReadiesBoth (tells : Type 0) (old new : Store) (a b x y : ℕ)
 pub record KeepsPages (tells : Type 0) (old new : Store) (page most : ℕ)
     (seen : Image) : Type 0 where
   pub step : OnePage tells old new page seen
-  pub sound : IsSound new.maps
+  pub sound : IsSoundMaps new.maps
   pub lives : 0 < page_block old page → 0 < page_block new page
   pub bytes : IsKnown tells old seen
-      → bytes_of new seen (page_block new page) ≡ bytes_of old seen (page_block old page)
+      → block_bytes new seen (page_block new page) ≡ block_bytes old seen (page_block old page)
   pub owned : (IsHeld old (page_block old page) → ⊥) → IsHeld new (page_block new page) → ⊥
   pub less : free_count old.free ≤ free_count new.free + most
   pub room : old.maps.conv ≤ free_count old.free → new.maps.conv ≤ free_count new.free
@@ -183,7 +195,7 @@ pub record EditsBoth (old new : Store) (x y : ℕ)
 
 -- The page was dead. It has a block that was free, with zero bytes in its frame.
 pub record MakesPage (old new : Store) (page : ℕ) : Type 0 where
-  pub below : page < blocks_of old
+  pub below : page < block_count old
   pub dead : page_block old page ≡ 0
   pub block : ℕ
   pub free : IsFree old.free block
@@ -202,7 +214,7 @@ unwritten_below s (suc n) = unwritten_below s n + (if is_unwritten s n then 1 el
 
 -- how many of all
 abbrev pub unwritten : Store → ℕ
-unwritten s = unwritten_below s (blocks_of s)
+unwritten s = unwritten_below s (block_count s)
 
 -- the present map was frozen
 abbrev pub frozen_now : Store → Store
@@ -220,13 +232,13 @@ HasPages sizes m conv pages image =
     (p : ℕ) → 0 < block_of m (conv + p) → block_at sizes image (block_of m (conv + p)) ≡ pages p
 
 -- some frames are not newer than their blocks any more
-pub record Turned (old new : Store) : Type 0 where
+pub record CleansFrames (old new : Store) : Type 0 where
   pub same : new ≡ record old { changed = new.changed }
   pub only : (b : ℕ) → has_changed new b ≡ true → has_changed old b ≡ true
 
 -- The frozen page of a number may have come onto its block; the others are as they were.
 pub record TurnsPage (tells : Type 0) (old new : Store) (before after : Disk)
     (page : ℕ) : Type 0 where
-  pub turned : Turned old new
-  pub keeps : Keeps tells old new before after
+  pub turned : CleansFrames old new
+  pub keeps : KeepsStore tells old new before after
   pub others : (p : ℕ) → p ≢ page → is_unwritten new p ≡ is_unwritten old p

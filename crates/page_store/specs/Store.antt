@@ -1,14 +1,14 @@
 -- What a store holds.
 --     Store      the maps, the free blocks and the marks, the frames, and the pinned map
---     shown_frame, shown_frames, is_changed, shown_pin, store_of      the same as it is kept in
---         memory
+--     shown_frame, shown_frames, is_changed_frame, shown_pin, store_of      the same as it is kept
+--         in memory
 --     page_block, Lives      the block of a page in the present map
---     bytes_of      what stands on a block, in its frame or on the device
+--     block_bytes      what stands on a block, in its frame or on the device
 --     IsHeld      a kept map has a block, or it has a mark
 --     AreSixteen      each block has sixteen tests
 --     IsPinned      the pinned map is the one whose blocks have mark 0
 --     IsStore, IsKeptStore      what holds of a store at any time
---     Reads, IsKnown      the frames agree with the devices
+--     FramesMatch, IsKnown      the frames agree with the devices
 --     spare_of      how many pages that are not paid can be written
 use Rattle.std.specs.Prelude.{◌≡◌, ◌⊎◌, ℕ, ◌+◌, ◌-◌, ◌*◌, ◌<◌, ◌≤◌, ◌^◌, [], ◌∷◌, if◌then◌else◌}
 use Rattle.std.specs.Prelude.{zero, suc, List, length, get_or, sum, map, Bool, true, false, Option}
@@ -52,10 +52,10 @@ shown_frames (state ∷ states) (bytes ∷ frames) =
     shown_frame state bytes ∷ shown_frames states frames
 
 -- the frame is newer than its block
-abbrev pub is_changed : FrameState → Bool
-is_changed Absent = false
-is_changed Same = false
-is_changed Changed = true
+abbrev pub is_changed_frame : FrameState → Bool
+is_changed_frame Absent = false
+is_changed_frame Same = false
+is_changed_frame Changed = true
 
 -- the pinned map: none where none is pinned, whatever the room for it holds
 abbrev pub shown_pin : Bool → List ConverterEntry → Option (List ConverterEntry)
@@ -71,7 +71,7 @@ store_of maps free marks sizes frames states next is_pinned room = record {
   marks = marks;
   sizes = sizes;
   frames = shown_frames states frames;
-  changed = map is_changed states;
+  changed = map is_changed_frame states;
   next = next;
   pinned = shown_pin is_pinned room;
 }
@@ -79,8 +79,8 @@ store_of maps free marks sizes frames states next is_pinned room = record {
 -- Pages and blocks
 
 -- how many blocks there are
-abbrev pub blocks_of : Store → ℕ
-blocks_of s = length s.maps.owner
+abbrev pub block_count : Store → ℕ
+block_count s = length s.maps.owner
 
 -- the block of a page in the present map, or 0
 abbrev pub page_block : Store → ℕ → ℕ
@@ -103,8 +103,8 @@ abbrev pub has_changed : Store → ℕ → Bool
 has_changed s b = get_or s.changed b false
 
 -- what stands on a block: its frame, where it has one, and else what the device has
-abbrev pub bytes_of : Store → Image → ℕ → List ℕ
-bytes_of s seen b = unwrap_or (frame_of s b) (block_at s.sizes seen b)
+abbrev pub block_bytes : Store → Image → ℕ → List ℕ
+block_bytes s seen b = unwrap_or (frame_of s b) (block_at s.sizes seen b)
 
 -- a kept map has the block, or it has a mark
 abbrev pub IsHeld : Store → ℕ → Type 0
@@ -114,20 +114,20 @@ IsHeld s b = IsKept s.maps b ⊎ IsMarked s.marks b
 abbrev pub AreSixteen : List (List Bool) → Type 0
 AreSixteen marks = (b : ℕ) → b < length marks → length (get_or marks b []) ≡ 16
 
--- mark 0 is on the blocks of this map alone, no other mark is used, and each block of the map has
--- one place
+-- mark 0 is on the blocks of this map alone, and each of them has one place; the other marks are
+-- those of other keepers
 pub record IsPinned (conv blocks : ℕ) (marks : List (List Bool))
     (m : List ConverterEntry) : Type 0 where
   pub long : length m ≡ conv + blocks
   pub below : (q : ℕ) → block_of m q < blocks
   pub high : (q : ℕ) → 0 < block_of m q → 1 < block_of m q
   pub marked : (q : ℕ) → 0 < block_of m q → HasMark marks (block_of m q) 0
-  pub only : (b i : ℕ) → HasMark marks b i → (i ≡ 0) × (0 < b) × ((q : ℕ) × (block_of m q ≡ b))
+  pub only : (b : ℕ) → HasMark marks b 0 → (0 < b) × ((q : ℕ) × (block_of m q ≡ b))
   pub apart : (p q : ℕ) → 0 < block_of m p → block_of m p ≡ block_of m q → p ≡ q
 
--- the pinned map is the one whose blocks have a mark
+-- the pinned map is the one whose blocks have mark 0
 abbrev pub PinMarks : (conv blocks : ℕ) → List (List Bool) → Option (List ConverterEntry) → Type 0
-PinMarks conv blocks marks None = (b : ℕ) → IsMarked marks b → ⊥
+PinMarks conv blocks marks None = (b : ℕ) → HasMark marks b 0 → ⊥
 PinMarks conv blocks marks (Some m) = IsPinned conv blocks marks m
 
 -- All lists have an item for each block. A block is free exactly where it is one from 2 on that no
@@ -135,17 +135,17 @@ PinMarks conv blocks marks (Some m) = IsPinned conv blocks marks m
 -- free block and none with a mark has a newer frame. The numbers are those of src/store.rt.
 pub record IsStore (s : Store) : Type 0 where
   -- (1)
-  pub area : length s.free ≡ blocks_of s
-  pub marks_long : length s.marks ≡ blocks_of s
+  pub area : length s.free ≡ block_count s
+  pub marks_long : length s.marks ≡ block_count s
   pub sixteen : AreSixteen s.marks
-  pub frames_long : length s.frames ≡ blocks_of s
-  pub changed_long : length s.changed ≡ blocks_of s
-  pub blocks : sum s.sizes ≡ blocks_of s
+  pub frames_long : length s.frames ≡ block_count s
+  pub changed_long : length s.changed ≡ block_count s
+  pub blocks : sum s.sizes ≡ block_count s
   -- (2)
   pub unused : AreUnused s.maps s.free
   pub unmarked : (b : ℕ) → IsFree s.free b → IsMarked s.marks b → ⊥
   -- (3)
-  pub freed : (b : ℕ) → 1 < b → b < blocks_of s → (IsUsed s.maps b → ⊥) → (IsMarked s.marks b → ⊥)
+  pub freed : (b : ℕ) → 1 < b → b < block_count s → (IsUsed s.maps b → ⊥) → (IsMarked s.marks b → ⊥)
       → IsFree s.free b
   -- (4)
   pub saved_same : (q : ℕ) → has_changed s (block_of s.maps.saved q) ≡ false
@@ -160,7 +160,7 @@ pub record IsStore (s : Store) : Type 0 where
   pub some_next : 0 < s.next
   pub small_next : s.next < 2 ^ 62
   -- (8)
-  pub pins : PinMarks s.maps.conv (blocks_of s) s.marks s.pinned
+  pub pins : PinMarks s.maps.conv (block_count s) s.marks s.pinned
 
 -- what is kept of a store in memory: a frame, a state and a mark for each block, and room for a
 -- pinned map
@@ -175,8 +175,8 @@ pub record IsKeptStore (maps : Maps) (free : List Bool) (marks : List (List Bool
   pub room_long : length room ≡ maps.conv + length maps.owner
 
 -- the frame of each page that a map has is what its block has, where it is not newer
-abbrev pub Reads : Store → Image → Type 0
-Reads s seen =
+abbrev pub FramesMatch : Store → Image → Type 0
+FramesMatch s seen =
     (q b : ℕ) (bytes : List ℕ) → s.maps.conv ≤ q → 0 < b → HasAt s.maps q b
     → has_changed s b ≡ false → frame_of s b ≡ Some bytes → block_at s.sizes seen b ≡ bytes
 
@@ -184,7 +184,7 @@ Reads s seen =
 -- volumes are there
 pub record IsKnown (tells : Type 0) (s : Store) (seen : Image) : Type 0 where
   pub told : tells
-  pub reads : Reads s seen
+  pub reads : FramesMatch s seen
   pub there : IsArea s.sizes seen
 
 -- Spare pages

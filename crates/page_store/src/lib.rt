@@ -3,15 +3,18 @@
 #![tactic(auto)]
 
 mod frames;
+mod keeping;
 mod laws;
 mod opening;
 mod owning;
 mod pins;
+mod record;
 mod savepoints;
 mod store;
 mod view;
 
-pub use laws::{last_savepoint_stays, pinned_pages_stay};
+pub use laws::{can_save_stays, last_savepoint_stays, opened_can_save, pinned_pages_stay};
 pub use pins::Pin;
+pub use record::RecordInForce;
 pub use store::{FrameState, PageStore};
 pub use view::StoreView;

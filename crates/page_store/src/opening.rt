@@ -5,13 +5,14 @@ ghost use Rattle.std.specs.Prelude.{OnErr, get_or, false};
 ghost use Rattle.mdb_model.specs.Causes.{Rose};
 ghost use Rattle.mdb_model.specs.declared.limits.TheConstants.{MOST_BLOCKS};
 ghost use Rattle.mdb_model.specs.declared.fault.Damage.{Damage};
-ghost use Rattle.mdb_host.specs.Disk.{Goes, Agree};
+ghost use Rattle.mdb_host.specs.Reads.{ReadsOnly};
+ghost use Rattle.mdb_bytes.specs.Firsts.{no_entry};
 ghost use Rattle.free_blocks.specs.Free.{IsFree, free_count};
 ghost use Rattle.volume_disk.specs.Blocks.{IsArea, block_at};
-ghost use Rattle.converter.specs.Maps.{Maps, IsSound, IsUsed, no_entry, empty_maps};
+ghost use Rattle.converter.specs.Maps.{Maps, IsSoundMaps, IsUsed, empty_maps, block_of};
 ghost use Rattle.converter.specs.Loads.{IsRead, Breaks};
-ghost use Rattle.page_store.specs.Store.{Store, IsStore, blocks_of, IsKnown};
-ghost use Rattle.page_store.specs.Opens.{IsOpened, OpensTells, FreesUnused, own_pages};
+ghost use Rattle.page_store.specs.Store.{Store, IsStore, block_count, IsKnown};
+ghost use Rattle.page_store.specs.Opens.{IsStoreOpened, OpenFaultReports, FreesUnused, own_pages};
 ghost use Rattle.page_store.specs.Opens.{opening_fault};
 
 use crate::store::{FrameState, PageStore};
@@ -76,9 +77,9 @@ fn free_unused(free: &mut FreeBlocks, converter: &Converter, blocks: u32)
     requires area { blocks ≡ length converter.now.owner }
     ensures { FreesUnused converter.now blocks free.new }
 {
-    for b in 2..blocks {
-        if !converter.uses(b) {
-            free.give(b);
+    for block in 2..blocks {
+        if !converter.uses(block) {
+            free.give(block);
         }
     }
 }
@@ -106,30 +107,32 @@ impl PageStore {
         requires bound { sum rec.now.volumes.items ≤ MOST_BLOCKS }
         requires number { rec.now.savepoint + 1 < 2 ^ 62 }
         requires there { H.tells → IsArea rec.now.volumes.items (H.disk host.old).seen }
-        ensures opened { IfOk result (λ s. IsOpened s rec.now.volumes.items rec.now.savepoint) }
+        // The result.
+        ensures opened { IfOk result (λ s. IsStoreOpened s rec.now.volumes.items rec.now.savepoint) }
         ensures known { IfOk result (λ s. H.tells → IsKnown H.tells s (H.disk host.new).seen) }
         ensures read { IfOk result
             (λ s. H.tells
-            → IsRead s.maps.conv (blocks_of s) rec.now.root
+            → IsRead s.maps.conv (block_count s) rec.now.root
             (block_at rec.now.volumes.items (H.disk host.old).seen) (s.maps.conv - 1)
             s.maps.saved) }
+        ensures own { IfOk result
+            (λ s. (q : ℕ) → q < s.maps.conv → 1 < block_of s.maps.saved q) }
         ensures whole { IfOk result
             (λ s. H.tells → (damage : Damage)
-            → Breaks rec.now.volumes.items s.maps.conv (blocks_of s) rec.now.root
+            → Breaks rec.now.volumes.items s.maps.conv (block_count s) rec.now.root
             (block_at rec.now.volumes.items (H.disk host.old).seen) damage
             → ⊥) }
         ensures broken { IfErr result
-            (OpensTells
+            (OpenFaultReports
             (λ damage. H.tells
             → Breaks rec.now.volumes.items (own_pages (sum rec.now.volumes.items))
             (sum rec.now.volumes.items) rec.now.root
             (block_at rec.now.volumes.items (H.disk host.old).seen) damage)) }
-        ensures calm { H.tells → Goes (H.disk host.old) (H.disk host.new) Agree }
-        ensures seen { H.tells → Agree (H.disk host.old).seen (H.disk host.new).seen }
-        ensures later { H.faults host.old ≤ H.faults host.new }
+        // The devices.
+        ensures reads { ReadsOnly H.Host host.old host.new }
+        // The faults.
         ensures cause { result ≡ Err OpenFault.Failed
             → Rose (H.faults host.old) (H.faults host.new) }
-        ensures say_faults { H.say_faults host.new ≡ H.say_faults host.old }
     {
         let volumes = Volumes::new(&rec.volumes);
         let blocks = volumes.blocks();

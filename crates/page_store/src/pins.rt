@@ -5,13 +5,13 @@ ghost use Rattle.std.specs.Prelude.{IsTrue, IfOk, IfErr, OnOk, nat_lt, true, fal
 ghost use Rattle.mdb_model.specs.Causes.{Rose};
 ghost use Rattle.mdb_model.specs.Images.{Image};
 ghost use Rattle.mdb_model.specs.declared.limits.TheConstants.{MOST_BLOCKS};
-ghost use Rattle.mdb_host.specs.Disk.{Goes, Agree};
+ghost use Rattle.mdb_host.specs.Reads.{ReadsOnly};
 ghost use Rattle.mdb_bytes.specs.declared.converter_pages.ConverterEntry.{ConverterEntry};
 ghost use Rattle.free_blocks.specs.Free.{IsFree};
-ghost use Rattle.free_blocks.specs.Marked.{IsMarked, with_mark};
+ghost use Rattle.free_blocks.specs.Marked.{HasMark, IsMarked, with_mark};
 ghost use Rattle.volume_disk.specs.Blocks.{IsArea, block_at};
-ghost use Rattle.converter.specs.Maps.{IsSound, IsUsed, block_of, entry_at};
-ghost use Rattle.page_store.specs.Store.{Store, IsStore, IsPinned, AreSixteen, blocks_of, Reads};
+ghost use Rattle.converter.specs.Maps.{IsSoundMaps, IsUsed, block_of, entry_at};
+ghost use Rattle.page_store.specs.Store.{Store, IsStore, IsPinned, AreSixteen, block_count, FramesMatch};
 ghost use Rattle.page_store.specs.Pins.{MarksAlso, UnmarksThese, GivesThese, is_newer_page};
 ghost use Rattle.page_store.specs.Pins.{newer_below, IsAfter, IsNextPage, IsNewerFrom};
 
@@ -74,23 +74,23 @@ fn unmark_map(marks: &mut Marks, map: &[Entry])
 }
 
 // Frees a block that no map has and that has no mark.
-fn give_unused(free: &mut FreeBlocks, converter: &Converter, marks: &Marks, b: u32)
-    requires some { 0 < b }
-    requires below { b < length converter.now.owner }
+fn give_unused(free: &mut FreeBlocks, converter: &Converter, marks: &Marks, block: u32)
+    requires some { 0 < block }
+    requires below { block < length converter.now.owner }
     requires area { (length free.old ≡ length converter.now.owner)
         × (length marks.now ≡ length converter.now.owner) }
-    requires taken { IsFree free.old b → ⊥ }
-    ensures given { (IsUsed converter.now b → ⊥) → (IsMarked marks.now b → ⊥)
-        → free.new ≡ slice_set free.old b true }
-    ensures kept { IsUsed converter.now b ⊎ IsMarked marks.now b → free.new ≡ free.old }
+    requires taken { IsFree free.old block → ⊥ }
+    ensures given { (IsUsed converter.now block → ⊥) → (IsMarked marks.now block → ⊥)
+        → free.new ≡ slice_set free.old block true }
+    ensures kept { IsUsed converter.now block ⊎ IsMarked marks.now block → free.new ≡ free.old }
 {
-    if converter.uses(b) {
+    if converter.uses(block) {
         return;
     }
-    if marks.marked(b) {
+    if marks.marked(block) {
         return;
     }
-    free.give(b);
+    free.give(block);
 }
 
 // Frees the blocks of a map that nothing has any more.
@@ -136,9 +136,11 @@ impl PageStore {
         requires { self.old.pinned ≡ None }
         ensures same { self.new
             ≡ record self.old { marks = self.new.marks; pinned = Some self.old.maps.saved } }
-        ensures marks { IsPinned self.old.maps.conv (blocks_of self.old) self.new.marks
+        ensures marks { IsPinned self.old.maps.conv (block_count self.old) self.new.marks
             self.old.maps.saved }
-        ensures reads { (seen : Image) → Reads self.old seen → Reads self.new seen }
+        ensures others { (b i : ℕ) → 0 < i
+            → HasMark self.old.marks b i ↔ HasMark self.new.marks b i }
+        ensures reads { (seen : Image) → FramesMatch self.old seen → FramesMatch self.new seen }
     {
         // Opens the invariant of the store.
         let _blocks = self.blocks();
@@ -147,16 +149,19 @@ impl PageStore {
         Pin(())
     }
 
-    /// Gives the pinned map up. The blocks that it alone had are free then.
+    /// Gives the pinned map up. The blocks that it alone had are free then, where no other mark is
+    /// on them.
     pub fn unpin(&mut self, pin: Pin)
         requires { IsSome self.old.pinned }
         ensures same { self.new
             ≡ record self.old { marks = self.new.marks; free = self.new.free; pinned = None } }
-        ensures marks { (b : ℕ) → IsMarked self.new.marks b → ⊥ }
+        ensures marks { (b : ℕ) → HasMark self.new.marks b 0 → ⊥ }
+        ensures others { (b i : ℕ) → 0 < i
+            → HasMark self.old.marks b i ↔ HasMark self.new.marks b i }
         ensures free { (b : ℕ) → IsFree self.old.free b → IsFree self.new.free b }
         ensures given { (b : ℕ) → IsFree self.new.free b
             → IsFree self.old.free b ⊎ IsMarked self.old.marks b }
-        ensures reads { (seen : Image) → Reads self.old seen → Reads self.new seen }
+        ensures reads { (seen : Image) → FramesMatch self.old seen → FramesMatch self.new seen }
     {
         let _pin = pin;
         // Opens the invariant of the store.
@@ -171,7 +176,7 @@ impl PageStore {
         requires { IsSome self.now.pinned }
         ensures entry { (m : List ConverterEntry) → self.now.pinned ≡ Some m
             → result ≡ entry_at m (self.now.maps.conv + page) }
-        ensures below { result.block < blocks_of self.now }
+        ensures below { result.block < block_count self.now }
     {
         // Opens the invariant of the store.
         let _blocks = self.blocks();
@@ -196,7 +201,7 @@ impl PageStore {
     pub fn pin_count(&self, _pin: &Pin, base: u64) -> u32
         requires { IsSome self.now.pinned }
         ensures { (m : List ConverterEntry) → self.now.pinned ≡ Some m
-            → result ≡ newer_below m self.now.maps.conv base (blocks_of self.now) }
+            → result ≡ newer_below m self.now.maps.conv base (block_count self.now) }
     {
         let mut count = 0;
         for page in 0..self.blocks() {
@@ -246,15 +251,12 @@ impl PageStore {
             ≡ block_at self.old.sizes (H.disk host.old).seen
             (block_of m (self.old.maps.conv + page))) }
         // The devices.
-        ensures calm { H.tells → Goes (H.disk host.old) (H.disk host.new) Agree }
-        ensures seen { H.tells → Agree (H.disk host.old).seen (H.disk host.new).seen }
+        ensures reads { ReadsOnly H.Host host.old host.new }
         // The faults.
-        ensures later { H.faults host.old ≤ H.faults host.new }
         ensures cause { result ≡ Err PageFault.Failed
             → Rose (H.faults host.old) (H.faults host.new) }
         ensures whole { H.tells → IsArea self.old.sizes (H.disk host.old).seen
             → IfErr result (λ fault. fault ≡ PageFault.Failed) }
-        ensures say_faults { H.say_faults host.new ≡ H.say_faults host.old }
     {
         // Opens the invariant of the store.
         let _blocks = self.blocks();

@@ -6,21 +6,22 @@ ghost use Rattle.mdb_model.specs.Causes.{Rose, HasCause};
 ghost use Rattle.mdb_model.specs.Images.{Image};
 ghost use Rattle.mdb_host.specs.Disk.{Goes, Agree, Calls, Arrives, IsWithin};
 ghost use Rattle.mdb_bytes.specs.declared.converter_pages.ConverterEntry.{ConverterEntry};
-ghost use Rattle.mdb_bytes.specs.Parts.{Keeps as KeepsFormat};
+ghost use Rattle.mdb_bytes.specs.Parts.{KeepsLimits};
 ghost use Rattle.mdb_bytes.specs.SlotRecords.{restart_format};
 ghost use Rattle.gate_slots.specs.declared.body.SlotBody.TheVariants.{Restart};
 ghost use Rattle.gate_slots.specs.Slots.{IsReady};
-ghost use Rattle.gate_slots.specs.Steps.{Switches, Switched as SwitchedOver};
+ghost use Rattle.gate_slots.specs.Steps.{Switches, HasSwitched};
 ghost use Rattle.free_blocks.specs.Free.{IsFree, free_count};
-ghost use Rattle.volume_disk.specs.Blocks.{IsArea, Writes, block_at, IsSettled};
-ghost use Rattle.converter.specs.Maps.{Maps, IsSound, block_of, Leaves, Given, settled};
+ghost use Rattle.volume_disk.specs.Blocks.{IsArea, Writes, block_at, IsDurable};
+ghost use Rattle.converter.specs.Maps.{Maps, IsSoundMaps, block_of, Leaves, FreesLeaving, frozen_as_saved};
 ghost use Rattle.converter.specs.Tree.{HasTree};
-ghost use Rattle.converter.specs.Own.{OwnOnly, Fewer, Taken, SavedLeaves};
-ghost use Rattle.savepoint.specs.Stands.{restart_place, Stands, AtSwitch, IsPlaced, Holds};
-ghost use Rattle.savepoint.specs.Stands.{KeepsMaps as KeepsImages};
-ghost use Rattle.page_store.specs.Store.{Store, IsStore, blocks_of, frozen_block, frame_of};
-ghost use Rattle.page_store.specs.Store.{has_changed, bytes_of, Reads, IsKnown};
-ghost use Rattle.page_store.specs.Steps.{Keeps, Turned, frozen_now, TurnsPage, OwnAsSaved};
+ghost use Rattle.converter.specs.Own.{OwnOnly, Fewer, TakesForFrozen, SavedLeaves};
+ghost use Rattle.savepoint.specs.Calls.{WritesConverter, MaySwitch, SwitchesOver};
+ghost use Rattle.savepoint.specs.Stands.{restart_place, HasSavepoint, AtSwitch, IsMapPlaced, HoldsMap};
+ghost use Rattle.savepoint.specs.Stands.{KeepsMapBlocks as KeepsImages};
+ghost use Rattle.page_store.specs.Store.{Store, IsStore, block_count, frozen_block, frame_of};
+ghost use Rattle.page_store.specs.Store.{has_changed, block_bytes, FramesMatch, IsKnown};
+ghost use Rattle.page_store.specs.Steps.{KeepsStore, CleansFrames, frozen_now, TurnsPage, OwnAsSaved};
 ghost use Rattle.page_store.specs.Steps.{is_unwritten, unwritten, unwritten_below, HasPages};
 
 use crate::store::{FrameState, PageStore};
@@ -42,7 +43,7 @@ impl PageStore {
         ensures map { result.map.savepoint ≡ mark.savepoint }
         ensures frozen { self.new ≡ frozen_now self.old }
         ensures own { OwnAsSaved self.new.maps }
-        ensures reads { (seen : Image) → Reads self.old seen → Reads self.new seen }
+        ensures reads { (seen : Image) → FramesMatch self.old seen → FramesMatch self.new seen }
     {
         // Opens the invariant of the store.
         let _blocks = self.blocks();
@@ -52,32 +53,33 @@ impl PageStore {
     }
 
     // Writes the newer frame of a block to it.
-    fn write_frame<H: Host>(&mut self, host: &mut H, b: u32) -> Result<(), Failed>
-        requires below { b < blocks_of self.old }
-        requires changed { has_changed self.old b ≡ true }
+    fn write_frame<H: Host>(&mut self, host: &mut H, block: u32) -> Result<(), Failed>
+        requires below { block < block_count self.old }
+        requires changed { has_changed self.old block ≡ true }
         requires there { H.tells → IsArea self.old.sizes (H.disk host.old).seen }
         ensures ok { OnOk result
-            (self.new ≡ record self.old { changed = slice_set self.old.changed b false }) }
+            (self.new ≡ record self.old { changed = slice_set self.old.changed block false }) }
         ensures err { OnErr result (self.new ≡ self.old) }
         ensures calls { H.tells
-            → Calls (H.disk host.old) (H.disk host.new) (Writes self.old.sizes (λ c. c ≡ b)) }
+            → Calls (H.disk host.old) (H.disk host.new) (Writes self.old.sizes (λ c. c ≡ block)) }
         ensures written { OnOk result
             (H.tells
-            → frame_of self.old b ≡ Some (block_at self.old.sizes (H.disk host.new).seen b)) }
+            → frame_of self.old block ≡ Some (block_at self.old.sizes (H.disk host.new).seen block)) }
         ensures cause { HasCause (H.faults host.old) (H.faults host.new) result }
         ensures say_faults { H.say_faults host.new ≡ H.say_faults host.old }
     {
-        self.volumes.write_block(host, b, &self.frames[b as usize])?;
-        self.states[b as usize] = FrameState::Same;
+        self.volumes
+            .write_block(host, block, &self.frames[block as usize])?;
+        self.states[block as usize] = FrameState::Same;
         Ok(())
     }
 
     // Whether a block has a newer frame.
-    fn is_newer(&self, b: u32) -> bool
-        requires { b < blocks_of self.now }
-        ensures { result ≡ has_changed self.now b }
+    fn is_newer(&self, block: u32) -> bool
+        requires { block < block_count self.now }
+        ensures { result ≡ has_changed self.now block }
     {
-        match self.states[b as usize] {
+        match self.states[block as usize] {
             FrameState::Changed => true,
             FrameState::Same | FrameState::Absent => false,
         }
@@ -85,10 +87,10 @@ impl PageStore {
 
     // The block of a frozen page, or 0.
     fn frozen_at(&self, page: u32) -> u32
-        requires { page < blocks_of self.now }
+        requires { page < block_count self.now }
         ensures block { result ≡ frozen_block self.now page }
-        ensures below { result < blocks_of self.now }
-        ensures sound { IsSound self.now.maps }
+        ensures below { result < block_count self.now }
+        ensures sound { IsSoundMaps self.now.maps }
         ensures store { IsStore self.now }
     {
         // Opens the invariant of the store.
@@ -104,7 +106,7 @@ impl PageStore {
         page: u32,
         may: bool,
     ) -> Result<(u32, u32), PageFault>
-        requires below { page < blocks_of self.old }
+        requires below { page < block_count self.old }
         requires there { H.tells → IsArea self.old.sizes (H.disk host.old).seen }
         // The result.
         ensures turns { TurnsPage H.tells self.old self.new (H.disk host.old) (H.disk host.new)
@@ -119,14 +121,14 @@ impl PageStore {
         ensures fault { IfErr result (λ fault. fault ≡ PageFault.Failed) }
         ensures say_faults { H.say_faults host.new ≡ H.say_faults host.old }
     {
-        let b = self.frozen_at(page);
-        if !self.is_newer(b) {
+        let block = self.frozen_at(page);
+        if !self.is_newer(block) {
             return Ok((0, 0));
         }
         if !may {
             return Ok((0, 1));
         }
-        match self.write_frame(host, b) {
+        match self.write_frame(host, block) {
             Ok(()) => Ok((1, 0)),
             Err(_) => Err(PageFault::Failed),
         }
@@ -138,8 +140,8 @@ impl PageStore {
     pub fn turn_savepoint<H: Host>(&mut self, host: &mut H, most: u32) -> Result<u32, PageFault>
         requires { H.tells → IsArea self.old.sizes (H.disk host.old).seen }
         // The result.
-        ensures turned { Turned self.old self.new }
-        ensures keeps { Keeps H.tells self.old self.new (H.disk host.old) (H.disk host.new) }
+        ensures turned { CleansFrames self.old self.new }
+        ensures keeps { KeepsStore H.tells self.old self.new (H.disk host.old) (H.disk host.new) }
         ensures left { IfOk result (λ n. n ≡ unwritten self.old - most) }
         ensures now { IfOk result (λ n. unwritten self.new ≡ n) }
         ensures done { IfOk result (λ n. n ≡ 0 → (page : ℕ) → is_unwritten self.new page ≡ false) }
@@ -171,7 +173,7 @@ impl PageStore {
         ensures same { self.new ≡ self.old }
         ensures goes { H.tells → Goes (H.disk host.old) (H.disk host.new) Agree }
         ensures seen { H.tells → Agree (H.disk host.old).seen (H.disk host.new).seen }
-        ensures settled { OnOk result (H.tells → IsSettled self.old.sizes (H.disk host.new)) }
+        ensures settled { OnOk result (H.tells → IsDurable self.old.sizes (H.disk host.new)) }
         ensures known { IsKnown H.tells self.old (H.disk host.old).seen
             → IsKnown H.tells self.new (H.disk host.new).seen }
         // Each image has what stands on the frozen pages, where all of them were written.
@@ -180,7 +182,7 @@ impl PageStore {
             → ((page : ℕ) → is_unwritten self.old page ≡ false) → (image : Image)
             → (H.disk host.new).may_leave (H.disk host.new).now image
             → HasPages self.old.sizes self.old.maps.frozen self.old.maps.conv
-            (λ page. bytes_of self.old (H.disk host.old).seen (frozen_block self.old page))
+            (λ page. block_bytes self.old (H.disk host.old).seen (frozen_block self.old page))
             image) }
         ensures next { IfOk result (λ s. (s.map ≡ state.map) × (s.mark ≡ state.mark)) }
         ensures back { IfErr result (λ e. (e.0.map ≡ state.map) × (e.0.mark ≡ state.mark)) }
@@ -208,20 +210,12 @@ impl PageStore {
             → SavedLeaves self.old.maps (block_at self.old.sizes (H.disk host.old).seen) }
         // The result.
         ensures same { self.new ≡ record self.old { maps = self.new.maps; free = self.new.free } }
-        ensures own { OwnOnly self.old.maps self.new.maps }
-        ensures fewer { Fewer self.old.free self.new.free self.old.maps.conv }
-        ensures placed { OnOk result
-            (IsPlaced self.old.sizes self.new.maps.frozen self.new.maps.conv) }
+        ensures writes { WritesConverter H.tells self.old.sizes self.old.maps self.new.maps
+            self.old.free self.new.free (H.disk host.old) (H.disk host.new) result }
         ensures next { IfOk result
             (λ s. (s.map ≡ state.map) × (s.mark ≡ state.mark)
             × (s.root ≡ block_of self.new.maps.frozen 0)) }
         ensures back { IfErr result (λ e. (e.0.map ≡ state.map) × (e.0.mark ≡ state.mark)) }
-        ensures goes { H.tells
-            → Goes (H.disk host.old) (H.disk host.new)
-            (Writes self.old.sizes (IsFree self.old.free)) }
-        ensures seen { H.tells
-            → Writes self.old.sizes (IsFree self.old.free) (H.disk host.old).seen
-            (H.disk host.new).seen }
         ensures known { IsKnown H.tells self.old (H.disk host.old).seen
             → IsKnown H.tells self.new (H.disk host.new).seen }
         ensures held { OnOk result
@@ -234,7 +228,7 @@ impl PageStore {
             → ((image : Image) → (H.disk host.old).may_leave (H.disk host.old).now image
             → HasPages self.old.sizes self.old.maps.frozen self.old.maps.conv pages image)
             → (image : Image) → (H.disk host.new).may_leave (H.disk host.new).now image
-            → Holds self.old.sizes self.new.maps.frozen self.new.maps.conv pages image) }
+            → HoldsMap self.old.sizes self.new.maps.frozen self.new.maps.conv pages image) }
         // At each moment each image has the slots and stands for the map that it stood for, where
         // no block of that is free.
         ensures kept { H.tells
@@ -263,10 +257,10 @@ impl PageStore {
         requires written { (page : ℕ) → is_unwritten self.old page ≡ false }
         ensures mark { result ≡ state.mark }
         ensures settled { self.new
-            ≡ record self.old { maps = settled self.old.maps; free = self.new.free } }
-        ensures given { Given (Leaves self.old.maps self.old.marks) 0 (length self.old.maps.saved)
-            self.old.free self.new.free }
-        ensures reads { (seen : Image) → Reads self.old seen → Reads self.new seen }
+            ≡ record self.old { maps = frozen_as_saved self.old.maps; free = self.new.free } }
+        ensures given { FreesLeaving (Leaves self.old.maps self.old.marks) 0
+            (length self.old.maps.saved) self.old.free self.new.free }
+        ensures reads { (seen : Image) → FramesMatch self.old seen → FramesMatch self.new seen }
     {
         // Opens the invariant of the store.
         let _blocks = self.blocks();
@@ -282,12 +276,7 @@ impl PageStore {
         slots: &mut Slots,
         rec: &RestartRecord,
     ) -> Result<Switched, (ConverterWritten, Failed)>
-        requires place { slots.old.place ≡ restart_place }
-        requires root { rec.now.root ≡ state.root }
-        requires mark { (rec.now.savepoint ≡ state.mark.savepoint)
-            × (rec.now.commit ≡ state.mark.commit) × (rec.now.position ≡ state.mark.position) }
-        requires number { rec.now.slot ≡ slots.old.number + 1 }
-        requires keeps { KeepsFormat restart_format rec.now }
+        requires may { MaySwitch slots.old state.root state.mark rec.now }
         requires within { H.tells
             → IsWithin (H.disk host.old).seen slots.old.place.device (8192 * slots.old.place.page)
             16384 }
@@ -296,37 +285,11 @@ impl PageStore {
         ensures known { 2 ≤ get_or self.old.sizes 0 0
             → IsKnown H.tells self.old (H.disk host.old).seen
             → IsKnown H.tells self.new (H.disk host.new).seen }
-        ensures any_moment { H.tells
-            → Goes (H.disk host.old) (H.disk host.new) (Switches slots.old (Restart rec.now)) }
-        ensures there { OnOk result
-            (H.tells
-            → Arrives (H.disk host.old) (H.disk host.new)
-            (SwitchedOver slots.old slots.new (Restart rec.now))) }
-        // At each moment every image stands for the last record's map or for the new one.
-        ensures crash { H.tells
-            → (sizes : List ℕ) (was : RestartRecord) (old new : List ConverterEntry) (conv : ℕ)
-            (before after : ℕ → List ℕ)
-            → AtSwitch (H.disk host.old) sizes slots.old was old new conv before after
-            → state.root ≡ block_of new 0
-            → Goes (H.disk host.old) (H.disk host.new)
-            (λ _ image. Stands sizes was old conv before image
-            ⊎ Stands sizes rec.now new conv after image) }
-        // Afterwards each stands for the new one, and the slots are ready for the next record.
-        ensures put { OnOk result
-            (H.tells
-            → (sizes : List ℕ) (was : RestartRecord) (old new : List ConverterEntry) (conv : ℕ)
-            (before after : ℕ → List ℕ)
-            → AtSwitch (H.disk host.old) sizes slots.old was old new conv before after
-            → state.root ≡ block_of new 0 → (image : Image)
-            → (H.disk host.new).may_leave (H.disk host.new).now image
-            → Stands sizes rec.now new conv after image
-            × IsReady slots.new (Restart rec.now) image) }
+        ensures switches { SwitchesOver H.tells (H.disk host.old) (H.disk host.new) slots.old
+            slots.new state.root rec.now result }
         ensures next { IfOk result (λ s. (s.map ≡ state.map) × (s.mark ≡ state.mark)) }
-        ensures number { OnOk result
-            ((slots.new.place ≡ slots.old.place) × (slots.new.number ≡ rec.now.slot)) }
         ensures back { IfErr result
             (λ e. (e.0.map ≡ state.map) × (e.0.mark ≡ state.mark) × (e.0.root ≡ state.root)) }
-        ensures same { OnErr result (slots.new ≡ slots.old) }
         // The faults.
         ensures cause { HasCause (H.faults host.old) (H.faults host.new) result }
         ensures say_faults { H.say_faults host.new ≡ H.say_faults host.old }

@@ -9,13 +9,13 @@
 //! 5. A block that is newer has a frame.
 //! 6. While no savepoint is under way the frozen map has no page.
 //! 7. The number of the next savepoint is above 0 and below 2^62.
-//! 8. Exactly the blocks of the pinned map have a mark.
+//! 8. Exactly the blocks of the pinned map have mark 0.
 //! 9. There is room for a pinned map.
 ghost use Rattle.std.specs.Prelude.{◌≡◌, ◌+◌, ◌-◌, ◌<◌, ◌≤◌, ◌^◌, ◌↔◌, if◌then◌else◌};
 ghost use Rattle.std.specs.Prelude.{length, sum, IsSome, IsTrue};
 ghost use Rattle.free_blocks.specs.Free.{free_count};
-ghost use Rattle.converter.specs.Maps.{Maps, IsSound, block_of};
-ghost use Rattle.page_store.specs.Store.{Store, IsStore, Lives, blocks_of, page_block};
+ghost use Rattle.converter.specs.Maps.{Maps, IsSoundMaps, block_of};
+ghost use Rattle.page_store.specs.Store.{Store, IsStore, Lives, block_count, page_block};
 ghost use Rattle.page_store.specs.Store.{own_unmarked, spare_of, is_marked, IsHeld};
 
 use converter::{Converter, Entry};
@@ -70,8 +70,8 @@ impl Model for PageStore {
 impl PageStore {
     /// How many blocks there are, which is also how many page numbers.
     pub fn blocks(&self) -> u32
-        ensures count { result ≡ blocks_of self.now }
-        ensures sound { IsSound self.now.maps }
+        ensures count { result ≡ block_count self.now }
+        ensures sound { IsSoundMaps self.now.maps }
         ensures store { IsStore self.now }
     {
         // Opens the invariant of the maps.
@@ -89,7 +89,7 @@ impl PageStore {
     /// Whether a page lives.
     pub fn lives(&self, page: u32) -> bool
         ensures lives { IsTrue result ↔ Lives self.now page }
-        ensures below { IsTrue result → page < blocks_of self.now }
+        ensures below { IsTrue result → page < block_count self.now }
     {
         page < self.blocks() && self.converter.map(page).is_some()
     }
@@ -98,9 +98,9 @@ impl PageStore {
     pub(crate) fn block_of(&self, page: u32) -> u32
         requires { Lives self.now page }
         ensures block { result ≡ page_block self.now page }
-        ensures below { result < blocks_of self.now }
-        ensures page { page < blocks_of self.now }
-        ensures sound { IsSound self.now.maps }
+        ensures below { result < block_count self.now }
+        ensures page { page < block_count self.now }
+        ensures sound { IsSoundMaps self.now.maps }
         ensures store { IsStore self.now }
     {
         // Opens the invariant of the store.
@@ -112,13 +112,13 @@ impl PageStore {
     }
 
     // Whether a kept map has the block, or it has a mark.
-    pub(crate) fn is_held(&self, b: u32) -> bool
-        requires some { 0 < b }
-        requires below { b < blocks_of self.now }
-        ensures { IsTrue result ↔ IsHeld self.now b }
+    pub(crate) fn is_held(&self, block: u32) -> bool
+        requires some { 0 < block }
+        requires below { block < block_count self.now }
+        ensures { IsTrue result ↔ IsHeld self.now block }
     {
-        let kept = self.converter.kept(b);
-        let marked = self.marks.marked(b);
+        let kept = self.converter.kept(block);
+        let marked = self.marks.marked(block);
         kept | marked
     }
 

@@ -2,8 +2,8 @@
 ghost use Rattle.std.specs.Prelude.{◌≡◌, refl};
 ghost use Rattle.std.proofs.Common.{◌∙◌};
 ghost use Rattle.page_store.specs.Store.{Store, IsKnown, spare_of};
-ghost use Rattle.page_store.specs.LogicalPages.{pages_of, paid_pages};
-ghost use Rattle.page_store.specs.Steps.{Keeps};
+ghost use Rattle.page_store.specs.LogicalPages.{store_pages, paid_pages};
+ghost use Rattle.page_store.specs.Steps.{KeepsStore};
 ghost use Rattle.page_store.specs.StepLaws.{keeps_itself, keeps_further};
 
 use crate::store::PageStore;
@@ -35,7 +35,7 @@ impl PageStore {
 impl<'a, H: Host> Pages for StoreView<'a, H> {
     ghost is_known = { λ s. IsKnown H.tells s.store.now (H.disk s.host.now).seen };
 
-    ghost pages = { λ s. pages_of s.store.now (H.disk s.host.now).seen };
+    ghost pages = { λ s. store_pages s.store.now (H.disk s.host.now).seen };
 
     ghost paid = { λ s. paid_pages s.store.now };
 
@@ -45,7 +45,7 @@ impl<'a, H: Host> Pages for StoreView<'a, H> {
 
     ghost follows = { λ a b. (b.store.ghost_name ≡ a.store.ghost_name)
         × (b.host.ghost_name ≡ a.host.ghost_name)
-        × Keeps H.tells a.store.now b.store.now (H.disk a.host.now) (H.disk b.host.now)
+        × KeepsStore H.tells a.store.now b.store.now (H.disk a.host.now) (H.disk b.host.now)
         × (H.say_faults b.host.now ≡ H.say_faults a.host.now) };
 
     ghost follows_itself = { λ a. (
@@ -81,21 +81,22 @@ impl<'a, H: Host> Pages for StoreView<'a, H> {
     }
 
     fn read(&mut self, page: u32) -> Result<&[u8; PAGE_BYTES], PageFault> {
-        match self.store.filled(self.host, page) {
-            Ok(b) => Ok(self.store.frame(b)),
-            Err(fault) => Err(fault),
-        }
+        let block = self.store.filled(self.host, page)?;
+        Ok(self.store.frame(block))
     }
 
     fn write(&mut self, page: u32) -> Result<&mut [u8; PAGE_BYTES], PageFault> {
-        match self.store.ready(self.host, page) {
-            Ok(b) => Ok(self.store.frame_mut(b)),
-            Err(fault) => Err(fault),
-        }
+        let block = self.store.ready(self.host, page)?;
+        Ok(self.store.frame_mut(block))
     }
 
-    fn write_pair<E: PairEdit>(&mut self, a: u32, b: u32, edit: &E) -> Result<bool, PageFault> {
-        let (first, second) = self.store.ready_both(self.host, a, b)?;
+    fn write_pair<E: PairEdit>(
+        &mut self,
+        one: u32,
+        other: u32,
+        edit: &E,
+    ) -> Result<bool, PageFault> {
+        let (first, second) = self.store.ready_both(self.host, one, other)?;
         let answer = self.store.edit_both(first, second, edit);
         Ok(answer)
     }

@@ -15,6 +15,7 @@ use Rattle.std.specs.FinMap.Entries.{below_all, is_sorted}
 use Rattle.std.proofs.lemmas.Bool.{eqb-true, eqb-false}
 use Rattle.std.proofs.lemmas.List.{length-map}
 use Rattle.std.proofs.lemmas.List.Folds.{list_any_at}
+use Rattle.mdb_bytes.proofs.Booleans.{first_holds, second_holds}
 use Rattle.mdb_model.specs.declared.change.Change.{Change}
 use Rattle.mdb_model.specs.Script.{is_session}
 use Rattle.mdb_model.specs.Tables.{place_of}
@@ -23,17 +24,9 @@ use Rattle.mdb_model.specs.Sessions.{conflict, holder}
 use Rattle.mdb_model.specs.Steps.{locked, changed}
 use Rattle.sorted_places.proofs.Tests.{tie-eqb}
 use Rattle.record_locks.specs.Holders.{bars, holder_in, HasLock, LetGo}
-use Rattle.record_locks.specs.Agreeing.{Agrees, AreNumbered}
+use Rattle.record_locks.specs.Agreeing.{LocksAgree, AreNumbered}
 use Rattle.record_locks.proofs.Found.{find-step, find-nothing, keeps}
 use Rattle.record_locks.proofs.Numbers.{session-from, session-below, is-session}
-
-left : (a b : Bool) → T (a && b) → T a
-left true b p = tt
-left false b p = p
-
-right : (a b : Bool) → T (a && b) → T b
-right true b p = p
-right false b p = absurd p
 
 -- two tests that agree on the numbers of a row find the same one
 find-same : (f g : ℕ → Bool) (a n : ℕ) → ((k : ℕ) → a ≤ k → k < a + n → f k ≡ g k) → find f (range_with_len a n) ≡ find g (range_with_len a n)
@@ -61,9 +54,9 @@ module _ {X : Type 0} where
   rises-behind : (k : ℕ) (es : List (ℕ × X)) (b : ℕ) → T (below_all nat_cmp k es) → T (is_sorted nat_cmp es) → ((i : ℕ) (d : ℕ × X) → i < length es → (get_or es i d).0 < b) → Rises (k + 1) es b
   rises-behind k [] b below sorted within = tt
   rises-behind k (e ∷ es) b below sorted within = (
-    number-below k e.0 (left _ _ below),
+    number-below k e.0 (first_holds _ _ below),
     within 0 e (omega arith),
-    rises-behind e.0 es b (left _ _ sorted) (right _ _ sorted) (λ i d inside. within (suc i) d (omega (arith, inside))),
+    rises-behind e.0 es b (first_holds _ _ sorted) (second_holds _ _ sorted) (λ i d inside. within (suc i) d (omega (arith, inside))),
   )
 
   rises-all : (a : ℕ) (es : List (ℕ × X)) (b : ℕ) → T (is_sorted nat_cmp es) → ((i : ℕ) (d : ℕ × X) → i < length es → (a ≤ (get_or es i d).0) × ((get_or es i d).0 < b)) → Rises a es b
@@ -71,7 +64,7 @@ module _ {X : Type 0} where
   rises-all a (e ∷ es) b sorted within = (
     (within 0 e (omega arith)).0,
     (within 0 e (omega arith)).1,
-    rises-behind e.0 es b (left _ _ sorted) (right _ _ sorted) (λ i d inside. (within (suc i) d (omega (arith, inside))).1),
+    rises-behind e.0 es b (first_holds _ _ sorted) (second_holds _ _ sorted) (λ i d inside. (within (suc i) d (omega (arith, inside))).1),
   )
 
   -- a number before all entries has none, and one past the first entry has none there
@@ -165,7 +158,7 @@ sessions-rise w numbered = rises-all 1 (entries w.sessions) 65 (entries_sorted w
     (session-from n is, session-below n is))
 
 -- the session that is named for a lock is that of the machine
-pub holder-agrees : (locks : List (List Lock)) (w : World) → AreNumbered w → Agrees locks w → (session : ℕ) (lock : Lock) → holder_in locks session lock ≡ holder w session lock
+pub holder-agrees : (locks : List (List Lock)) (w : World) → AreNumbered w → LocksAgree locks w → (session : ℕ) (lock : Lock) → holder_in locks session lock ≡ holder w session lock
 unfolding holder_in
 holder-agrees locks w numbered agrees session lock =
     find-same (keeps locks session lock) (at_number test (entries w.sessions)) 1 64 (λ k low high.
@@ -207,7 +200,7 @@ numbered-without w session numbered other there =
     by_test false kept = numbered other kept
 
 -- At first no session has a lock
-pub agrees-none : (locks : List (List Lock)) (w : World) → ((session : ℕ) (lock : Lock) → bars locks session lock ≡ false) → w.sessions ≡ fin.empty → Agrees locks w
+pub agrees-none : (locks : List (List Lock)) (w : World) → ((session : ℕ) (lock : Lock) → bars locks session lock ≡ false) → w.sessions ≡ fin.empty → LocksAgree locks w
 agrees-none locks w nothing none session is lock =
     nothing session lock ∙ sym (ap (λ (m : fin.FinMap nat_cmp Transaction). list_any (conflict lock) (unwrap_or (get m session) no_transaction).locks) none
     ∙ ap (λ o. list_any (conflict lock) (unwrap_or o no_transaction).locks) (get-empty {X = Transaction} nat_cmp session))
@@ -225,8 +218,8 @@ transaction-with w session x other =
 
 -- a session with one lock more
 module _ (old new : List (List Lock)) (w : World) (session : ℕ) (lock : Lock) (more : HasLock old new session lock)
-    (agrees : Agrees old w) where
-  agrees-more : (x : Transaction) → x.locks ≡ lock ∷ (transaction w session).locks → Agrees new (with_transaction w session x)
+    (agrees : LocksAgree old w) where
+  agrees-more : (x : Transaction) → x.locks ≡ lock ∷ (transaction w session).locks → LocksAgree new (with_transaction w session x)
   agrees-more x held other is asked =
       more other asked ∙ ap (λ b. b || (other == session && conflict asked lock)) (agrees other is asked) ∙ by_test (other == session) refl
       ∙ ap (λ (y : Transaction). list_any (conflict asked) y.locks) (sym (transaction-with w session x other))
@@ -244,14 +237,14 @@ module _ (old new : List (List Lock)) (w : World) (session : ℕ) (lock : Lock) 
           ∙ ap (list_any (conflict asked)) (sym held)
       by_test false apart = turned (list_any (conflict asked) (transaction w other).locks) false
 
-  pub agrees-locked : Agrees new (locked w session lock)
+  pub agrees-locked : LocksAgree new (locked w session lock)
   agrees-locked = agrees-more (record { changes = (transaction w session).changes; locks = lock ∷ (transaction w session).locks }) refl
 
-  pub agrees-changed : (change : Change) → lock ≡ ExclusiveKey (place_of change) → Agrees new (changed w session change)
+  pub agrees-changed : (change : Change) → lock ≡ ExclusiveKey (place_of change) → LocksAgree new (changed w session change)
   agrees-changed change is = agrees-more _ (ap (λ l. l ∷ (transaction w session).locks) (sym is))
 
 -- a session whose transaction ended
-pub agrees-ended : (old new : List (List Lock)) (w : World) (session : ℕ) → LetGo old new session → Agrees old w → Agrees new (without_transaction w session)
+pub agrees-ended : (old new : List (List Lock)) (w : World) (session : ℕ) → LetGo old new session → LocksAgree old w → LocksAgree new (without_transaction w session)
 agrees-ended old new w session gone agrees other is asked =
     gone other asked ∙ ap (λ b. b && not (other == session)) (agrees other is asked) ∙ by_test (other == session)
     ∙ ap (λ b. list_any (conflict asked) (unwrap_or (cond b None (get w.sessions other)) no_transaction).locks) (λ i. sym (tie-eqb other) i session)

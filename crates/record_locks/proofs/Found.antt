@@ -5,8 +5,8 @@
 --     bars-set      what the sessions bar once one has other locks
 use Rattle.std.proofs.Common.{◌≡◌, refl, sym, ap, ◌∙◌, ℕ, zero, suc, ◌+◌, ◌<◌, ◌≤◌, Bool, true, false, not, ◌&&◌, ◌||◌, ◌==◌, cond, List, [], ◌∷◌, Option, Some, None, length, get_or, set, find, arith}
 use Rattle.std.specs.List.{list_any, range_with_len}
-use Rattle.std.proofs.lemmas.Bool.{eqb-true, eqb-false, ne_eqb, eq-eqb}
-use Rattle.std.proofs.lemmas.List.{get_or-set_same, get_or-set_other}
+use Rattle.std.proofs.lemmas.Bool.{eqb-true, eqb-false, ne_eqb, eq-eqb, and_from}
+use Rattle.std.proofs.lemmas.List.{get_or-set_same, get_or-set_other, get_or_default}
 use Rattle.mdb_model.specs.Worlds.{Lock}
 use Rattle.mdb_model.specs.Sessions.{conflict}
 use Rattle.record_locks.specs.Holding.{HasOneMore}
@@ -48,21 +48,11 @@ module _ (locks : List (List Lock)) (session : ℕ) (lock : Lock) where
   unfolding holder_in
   holder-nowhere fails = find-nothing keeps 1 64 fails
 
--- an item that is there does not depend on what stands for one that is not
-one_item : {A : Type 0} (xs : List A) (n : ℕ) (a b : A) → n < length xs → get_or xs n a ≡ get_or xs n b
-one_item [] n a b inside = absurd (omega (arith, inside))
-one_item (x ∷ xs) zero a b inside = refl
-one_item (x ∷ xs) (suc n) a b inside = one_item xs n a b (omega (arith, inside))
-
 pub bars-index : (locks : List (List Lock)) (number : ℕ) (d : List Lock) (lock : Lock) → number < length locks → list_any (conflict lock) (get_or locks number d) ≡ bars locks number lock
-bars-index locks number d lock inside = ap (list_any (conflict lock)) (one_item locks number d [] inside)
-
-both : (a b : Bool) → not a ≡ true → b ≡ true → (not a && b) ≡ true
-both true b p q = cc
-both false b p q = q
+bars-index locks number d lock inside = ap (list_any (conflict lock)) (get_or_default locks number d [] inside)
 
 pub keeps-true : (locks : List (List Lock)) (session number : ℕ) (lock : Lock) → (number ≡ session → ⊥) → bars locks number lock ≡ true → keeps locks session lock number ≡ true
-keeps-true locks session number lock other barred = both (number == session) (bars locks number lock) (ap not (ne_eqb number session other)) barred
+keeps-true locks session number lock other barred = and_from (not (number == session)) (bars locks number lock) (ap not (ne_eqb number session other)) barred
 
 pub keeps-own : (locks : List (List Lock)) (session number : ℕ) (lock : Lock) → number ≡ session → keeps locks session lock number ≡ false
 keeps-own locks session number lock own = ap (λ b. not b && bars locks number lock) (eq-eqb number session own)
@@ -88,7 +78,7 @@ module _ (locks : List (List Lock)) (session : ℕ) (now : List Lock) (inside : 
     by_session true own =
         let same : other ≡ session = eqb-true other session own in
         ap (list_any (conflict asked)) (set-own other same) ∙ more asked
-        ∙ ap (λ b. b || conflict asked lock) (ap (list_any (conflict asked)) (is ∙ one_item locks session old [] inside ∙ ap (locks_of locks) (sym same)))
+        ∙ ap (λ b. b || conflict asked lock) (ap (list_any (conflict asked)) (is ∙ get_or_default locks session old [] inside ∙ ap (locks_of locks) (sym same)))
     by_session false apart = ap (list_any (conflict asked)) (set-other other (eqb-false other session apart)) ∙ sym (plain (bars locks other asked)) where
       plain : (a : Bool) → (a || false) ≡ a
       plain true = refl

@@ -1,5 +1,5 @@
 -- The locks that are kept against those of the machine.
---     Agrees      each session bars what its locks in the machine conflict with
+--     LocksAgree      each session bars what its locks in the machine conflict with
 --     AreNumbered      the sessions of a world have the numbers 1 to 64
 use Rattle.std.specs.Prelude.{◌≡◌, ℕ, List, IsTrue}
 use Rattle.std.specs.List.{list_any}
@@ -10,8 +10,8 @@ use Rattle.mdb_model.specs.Sessions.{conflict}
 use Rattle.record_locks.specs.Holders.{bars}
 
 -- each session bars exactly what its locks in the machine conflict with
-abbrev pub Agrees : List (List Lock) → World → Type 0
-Agrees locks w =
+abbrev pub LocksAgree : List (List Lock) → World → Type 0
+LocksAgree locks w =
     (session : ℕ) → IsTrue (is_session session) → (lock : Lock)
     → bars locks session lock ≡ list_any (conflict lock) (transaction w session).locks
 

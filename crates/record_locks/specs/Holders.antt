@@ -4,7 +4,7 @@
 --     holder_in      the lowest other session that bars a lock
 --     covers      a lock asks for no more than one that is there
 --     HasLock      what is left where a session has one more lock
---     Takes      what asking for a lock gives, and leaves
+--     Acquires      what asking for a lock gives, and leaves
 --     LetGo      what is left where a session's locks are gone
 use Rattle.std.specs.Prelude.{◌≡◌, ℕ, List, [], Bool, false, not, ◌&&◌, ◌||◌, ◌==◌, Option, Some, None, Result, Ok, Err, find, slice_index_or}
 use Rattle.std.specs.List.{list_any, range_with_len}
@@ -47,13 +47,14 @@ HasLock old new session lock =
 -- A session asks for a lock. It is refused exactly where another session bars it, and that session
 -- is named; where it is refused or memory ran out, all is as before. Else the session has the lock.
 -- For a lock that it has already no memory is needed.
-abbrev pub Takes : (old new : List (List Lock)) → (session : ℕ) → Lock → Result (Unit {0}) LockFault
+abbrev pub Acquires : (old new : List (List Lock)) → (session : ℕ) → Lock
+    → Result (Unit {0}) LockFault
     → Type 0
-Takes old new session lock (Ok done) =
+Acquires old new session lock (Ok done) =
     (holder_in old session lock ≡ None) × HasLock old new session lock
-Takes old new session lock (Err (Held holder)) =
+Acquires old new session lock (Err (Held holder)) =
     (holder_in old session lock ≡ Some holder.0) × (new ≡ old)
-Takes old new session lock (Err Memory) =
+Acquires old new session lock (Err Memory) =
     (holder_in old session lock ≡ None) × (new ≡ old)
     × (list_any (covers lock) (locks_of old session) ≡ false)
 

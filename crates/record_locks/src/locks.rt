@@ -4,7 +4,7 @@ ghost use Rattle.std.specs.Option.{option_copied};
 ghost use Rattle.mdb_model.specs.Script.{is_session};
 ghost use Rattle.mdb_model.specs.Worlds.{Lock, ShareKey, ExclusiveKey, ShareTable};
 ghost use Rattle.record_locks.specs.Holding.{wanted_lock, lock_on};
-ghost use Rattle.record_locks.specs.Holders.{bars, holder_in, Takes, LetGo};
+ghost use Rattle.record_locks.specs.Holders.{bars, holder_in, Acquires, LetGo};
 
 use crate::fault::LockFault;
 use crate::held::{HeldLocks, Wanted};
@@ -60,7 +60,7 @@ impl Locks {
     // Takes the lock, if no other session bars it.
     fn take(&mut self, session: Session, wanted: Wanted) -> Result<(), LockFault>
         requires { IsTrue (is_session session.0) }
-        ensures { Takes self.old self.new session.0 (wanted_lock wanted.entry) result }
+        ensures { Acquires self.old self.new session.0 (wanted_lock wanted.entry) result }
     {
         if let Some(holder) = lowest_holder(&self.sessions, session, wanted) {
             return Err(LockFault::Held(holder));
@@ -72,55 +72,60 @@ impl Locks {
     }
 
     /// Locks a key, to read its row.
-    pub fn share_key(&mut self, s: Session, t: Table, key: &Key) -> Result<(), LockFault>
-        requires session { IsTrue (is_session s.0) }
-        ensures { Takes self.old self.new s.0 (ShareKey (t.0, key.now)) result }
+    pub fn share_key(&mut self, session: Session, table: Table, key: &Key) -> Result<(), LockFault>
+        requires session { IsTrue (is_session session.0) }
+        ensures { Acquires self.old self.new session.0 (ShareKey (table.0, key.now)) result }
     {
-        self.take(s, Wanted::ShareKey(t, key))
+        self.take(session, Wanted::ShareKey(table, key))
     }
 
     /// Locks a key, to change its row.
-    pub fn exclusive_key(&mut self, s: Session, t: Table, key: &Key) -> Result<(), LockFault>
-        requires session { IsTrue (is_session s.0) }
-        ensures { Takes self.old self.new s.0 (ExclusiveKey (t.0, key.now)) result }
+    pub fn exclusive_key(
+        &mut self,
+        session: Session,
+        table: Table,
+        key: &Key,
+    ) -> Result<(), LockFault>
+        requires session { IsTrue (is_session session.0) }
+        ensures { Acquires self.old self.new session.0 (ExclusiveKey (table.0, key.now)) result }
     {
-        self.take(s, Wanted::ExclusiveKey(t, key))
+        self.take(session, Wanted::ExclusiveKey(table, key))
     }
 
     /// Locks a table, to read all its rows.
-    pub fn share_table(&mut self, s: Session, t: Table) -> Result<(), LockFault>
-        requires session { IsTrue (is_session s.0) }
-        ensures { Takes self.old self.new s.0 (ShareTable t.0) result }
+    pub fn share_table(&mut self, session: Session, table: Table) -> Result<(), LockFault>
+        requires session { IsTrue (is_session session.0) }
+        ensures { Acquires self.old self.new session.0 (ShareTable table.0) result }
     {
-        self.take(s, Wanted::ShareTable(t))
+        self.take(session, Wanted::ShareTable(table))
     }
 
     /// Lets all locks of the session go.
-    pub fn release(&mut self, s: Session)
-        requires session { IsTrue (is_session s.0) }
-        ensures { LetGo self.old self.new s.0 }
+    pub fn release(&mut self, session: Session)
+        requires session { IsTrue (is_session session.0) }
+        ensures { LetGo self.old self.new session.0 }
     {
-        self.sessions[s.0 as usize].clear();
+        self.sessions[session.0 as usize].clear();
     }
 
     /// The lowest other session with a lock that conflicts with this one: on a key, exclusive or
     /// not, or where no key is named on the table. It takes no lock.
     pub fn holder(
         &self,
-        s: Session,
-        t: Table,
+        session: Session,
+        table: Table,
         key: Option<&Key>,
         exclusive: bool,
     ) -> Option<Session>
-        requires session { IsTrue (is_session s.0) }
+        requires session { IsTrue (is_session session.0) }
         ensures { option_map (λ holder. holder.0) result
-            ≡ holder_in self.now s.0 (lock_on t.0 (option_copied key.entry) exclusive) }
+            ≡ holder_in self.now session.0 (lock_on table.0 (option_copied key.entry) exclusive) }
     {
         let wanted = match key {
-            Some(key) if exclusive => Wanted::ExclusiveKey(t, key),
-            Some(key) => Wanted::ShareKey(t, key),
-            None => Wanted::ShareTable(t),
+            Some(key) if exclusive => Wanted::ExclusiveKey(table, key),
+            Some(key) => Wanted::ShareKey(table, key),
+            None => Wanted::ShareTable(table),
         };
-        lowest_holder(&self.sessions, s, wanted)
+        lowest_holder(&self.sessions, session, wanted)
     }
 }

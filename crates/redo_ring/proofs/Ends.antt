@@ -7,11 +7,11 @@ use Rattle.mdb_model.specs.Images.{Image}
 use Rattle.mdb_host.specs.Disk.{Agree}
 use Rattle.mdb_host.proofs.Moments.{same_image}
 use Rattle.mdb_bytes.specs.LogReading.{IsLog}
-use Rattle.mdb_bytes.specs.Rings.{ring_byte}
+use Rattle.mdb_bytes.specs.Rings.{ring_byte, ring_size}
 use Rattle.redo_ring.specs.declared.open.LogStart.{LogStart}
 use Rattle.redo_ring.specs.declared.open.LogEnd.{LogEnd}
 use Rattle.redo_ring.specs.Ring.{damage_at}
-use Rattle.redo_ring.specs.Opening.{ring_size, Parts, IsWhole}
+use Rattle.redo_ring.specs.Opening.{Parts, IsWhole}
 use Rattle.redo_ring.specs.Ends.{EndFinds, EndEnds, BothFinds, BothEnds}
 
 -- The walks are over a ring of the size that was computed, the second after the first.

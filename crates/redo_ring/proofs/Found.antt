@@ -18,9 +18,9 @@ use Rattle.mdb_bytes.proofs.GroupChecked.{group_limits}
 use Rattle.mdb_bytes.proofs.GroupLaw.{group_is_long, length-group}
 use Rattle.mdb_bytes.proofs.LogLaw.{first_is_gate, length_in, bytes_from-take}
 use Rattle.mdb_bytes.proofs.ReadBack.{four_in}
-use Rattle.redo_ring.specs.Ring.{HasGroup, HasLog, StandsAt, damage_at}
+use Rattle.redo_ring.specs.Ring.{HasGroup, HasLog, HasBytesAt, damage_at}
 use Rattle.redo_ring.specs.declared.reader.RingReader.{RingReader}
-use Rattle.redo_ring.specs.Reading.{NoGroup, Finds, Goes, IsNextOf, AreGroups, WalkFinds, WalkEnds}
+use Rattle.redo_ring.specs.Reading.{NoGroup, FindsGroup, MovesReader, IsNextOf, AreGroups, WalkFinds, WalkEnds}
 use Rattle.redo_ring.proofs.Log.{byte_from, stands_from, bytes_cons}
 use Rattle.redo_ring.proofs.Places.{stands_joined}
 
@@ -29,7 +29,7 @@ front_number : (ring : ℕ → ℕ) (p n : ℕ) → 5 ≤ n → number_at 4 1 (b
 front_number ring p n le = sym (length_in (bytes_from ring p n)) ∙ ap (number_at 4 1) (bytes_from-take ring p 5 n le)
 
 module _ (ring : ℕ → ℕ) (p : ℕ) (v : Group) (spelled : Spells group_format v (bytes_from ring p (group_bytes v.changes))) where
-  -- a group says its length behind its gate
+  -- a group says its length after its gate
   pub says_length : (n : ℕ) → 5 ≤ n → number_at 4 1 (bytes_from ring p n) ≡ group_bytes v.changes
   says_length n le =
       let long = group_is_long v.changes in
@@ -58,7 +58,7 @@ module _ (size : ℕ) (name : Name) (ring : ℕ → ℕ) (start p number : ℕ) 
       none (omega (arith, e, group_is_long changes), omega (arith, e, says_short ring p (due changes) spelled), omega (arith, e, fits))
 
   -- bytes of the length that is said are not the group that is due
-  pub no_group : (n : ℕ) (bytes : List ℕ) → n ≡ number_at 4 1 (bytes_from ring p 33) → length bytes ≡ n → StandsAt ring p bytes → (HasGroup name (number + 1) bytes → ⊥) → NoGroup size name ring start p number
+  pub no_group : (n : ℕ) (bytes : List ℕ) → n ≡ number_at 4 1 (bytes_from ring p 33) → length bytes ≡ n → HasBytesAt ring p bytes → (HasGroup name (number + 1) bytes → ⊥) → NoGroup size name ring start p number
   no_group n bytes is len stands none changes fits spelled =
       let e : group_bytes changes ≡ length bytes = sym (is ∙ says_length ring p (due changes) spelled 33 (omega arith)) ∙ sym len in
       none (changes, subst (λ (bs : List ℕ). Spells group_format (record { name = name; number = number + 1; changes = changes }) bs) (ap (bytes_from ring p) e ∙ stands_from ring p bytes stands) spelled)
@@ -95,7 +95,7 @@ module _ (size : ℕ) (name : Name) (ring : ℕ → ℕ) (start p number : ℕ) 
   never_broken opened none (c ∷ rest) log fits = none c.changes (omega (arith, fits, bytes_cons c rest)) log.0
 
   -- what is found, of a log that is known
-  pub next_of : (bytes : List ℕ) (result : Result Bool PageFault) → Finds size name ring start p number bytes result
+  pub next_of : (bytes : List ℕ) (result : Result Bool PageFault) → FindsGroup size name ring start p number bytes result
       → (commits : List Commit) → IsLog ring name p number commits → p + log_bytes commits < start + size → IsNextOf size name ring p number bytes commits result
   next_of bytes (Ok true) found commits log fits = first_of bytes found.0 found.1 commits log
   next_of bytes (Ok false) found commits log fits = none_of found commits log
@@ -120,7 +120,7 @@ module _ (ring : ℕ → ℕ) (name : Name) where
   groups_push p n (x ∷ cs) c q m at count groups spelled =
       (groups.0, groups_push (p + group_bytes x.changes) (n + 1) cs c q m (omega (arith, at, bytes_cons x cs)) (omega (arith, count)) groups.1 spelled)
 
-  -- with a closed gate behind them they are the log
+  -- with a closed gate after them they are the log
   pub log_of_groups : (p n end : ℕ) (cs : List Commit) → end ≡ p + log_bytes cs → AreGroups ring name p n cs → ring end ≢ 79 → IsLog ring name p n cs
   log_of_groups p n end [] at groups shut = let e : end ≡ p = omega (arith, at) in subst (λ (q : ℕ). ring q ≢ 79) e shut
   log_of_groups p n end (c ∷ cs) at groups shut = (groups.0, log_of_groups (p + group_bytes c.changes) (n + 1) end cs (omega (arith, at, bytes_cons c cs)) groups.1 shut)
@@ -130,7 +130,7 @@ module _ (ring : ℕ → ℕ) (name : Name) where
 pub false_not : {W : Type 0} → (IsTrue false ↔ W) → W → ⊥
 false_not e w = let t : false ≡ true = e.1 w in cc
 
-module _ (size : ℕ) (name : Name) (ring : ℕ → ℕ) (start p number : ℕ) (head : List ℕ) (long : length head ≡ 33) (stands : StandsAt ring p head) where
+module _ (size : ℕ) (name : Name) (ring : ℕ → ℕ) (start p number : ℕ) (head : List ℕ) (long : length head ≡ 33) (stands : HasBytesAt ring p head) where
   gate : ring p ≡ get_or head 0 0
   gate = let e : p ≡ p + 0 = omega arith in ap ring e ∙ stands 0 (omega (arith, long))
 
@@ -144,34 +144,34 @@ module _ (size : ℕ) (name : Name) (ring : ℕ → ℕ) (start p number : ℕ) 
   length_said n is = is ∙ ap (number_at 4 1) (sym (stands_from ring p head stands) ∙ ap (bytes_from ring p) long)
 
   module _ (opened : get_or head 0 0 ≡ 79) (n : ℕ) (is : n ≡ number_at 4 1 head) (fault : PageFault) (named : fault ≡ Damaged (damage_at size p)) where
-    damaged_with : (bytes : List ℕ) → NoGroup size name ring start p number → Finds size name ring start p number bytes (Err fault)
-    damaged_with bytes none = subst (λ (f : PageFault). Finds size name ring start p number bytes (Err f)) (sym named) (refl, gate_open opened, none)
+    damaged_with : (bytes : List ℕ) → NoGroup size name ring start p number → FindsGroup size name ring start p number bytes (Err fault)
+    damaged_with bytes none = subst (λ (f : PageFault). FindsGroup size name ring start p number bytes (Err f)) (sym named) (refl, gate_open opened, none)
 
     -- there is no room for the length that is said
-    pub finds_no_room : (bytes : List ℕ) → (IsTrue false ↔ ((33 ≤ n) × (n ≤ 1048576) × (p + n < start + size))) → Finds size name ring start p number bytes (Err fault)
+    pub finds_no_room : (bytes : List ℕ) → (IsTrue false ↔ ((33 ≤ n) × (n ≤ 1048576) × (p + n < start + size))) → FindsGroup size name ring start p number bytes (Err fault)
     finds_no_room bytes room = damaged_with bytes (no_room size name ring start p number n (length_said n is) (false_not room))
 
     -- the bytes are not the group that is due
-    pub finds_other : (bytes read : List ℕ) → read ≡ bytes → length bytes ≡ n → StandsAt ring p bytes → (IsTrue false ↔ HasGroup name (number + 1) read) → Finds size name ring start p number bytes (Err fault)
+    pub finds_other : (bytes read : List ℕ) → read ≡ bytes → length bytes ≡ n → HasBytesAt ring p bytes → (IsTrue false ↔ HasGroup name (number + 1) read) → FindsGroup size name ring start p number bytes (Err fault)
     finds_other bytes read same len there due_not =
         damaged_with bytes (no_group size name ring start p number n bytes (length_said n is) len there (λ has. false_not due_not (subst (λ (bs : List ℕ). HasGroup name (number + 1) bs) (sym same) has)))
 
 -- the group that is due
-pub finds_group : (size : ℕ) (name : Name) (ring : ℕ → ℕ) (start p number : ℕ) (bytes read : List ℕ) → read ≡ bytes → StandsAt ring p bytes → (IsTrue true ↔ HasGroup name (number + 1) read)
-    → Finds size name ring start p number bytes (Ok true)
+pub finds_group : (size : ℕ) (name : Name) (ring : ℕ → ℕ) (start p number : ℕ) (bytes read : List ℕ) → read ≡ bytes → HasBytesAt ring p bytes → (IsTrue true ↔ HasGroup name (number + 1) read)
+    → FindsGroup size name ring start p number bytes (Ok true)
 finds_group size name ring start p number bytes read same stands due_is =
     (sym (stands_from ring p bytes stands), subst (λ (bs : List ℕ). HasGroup name (number + 1) bs) same (due_is.0 refl))
 
 -- bytes that stood there before calls that change no device
-pub stood : (size p : ℕ) (old new : Image) (bytes : List ℕ) → Agree old new → StandsAt (ring_byte size new) p bytes → StandsAt (ring_byte size old) p bytes
-stood size p old new bytes same stands = subst (λ (i : Image). StandsAt (ring_byte size i) p bytes) (sym (same_image old new same)) stands
+pub stood : (size p : ℕ) (old new : Image) (bytes : List ℕ) → Agree old new → HasBytesAt (ring_byte size new) p bytes → HasBytesAt (ring_byte size old) p bytes
+stood size p old new bytes same stands = subst (λ (i : Image). HasBytesAt (ring_byte size i) p bytes) (sym (same_image old new same)) stands
 
 -- the bytes so far and some more
 pub stands_more : (size p done : ℕ) (old mid : Image) (so_far more all : List ℕ) → length so_far ≡ done → all ≡ so_far ++ more → Agree old mid
-    → StandsAt (ring_byte size old) p so_far → StandsAt (ring_byte size mid) (p + done) more → StandsAt (ring_byte size old) p all
+    → HasBytesAt (ring_byte size old) p so_far → HasBytesAt (ring_byte size mid) (p + done) more → HasBytesAt (ring_byte size old) p all
 stands_more size p done old mid so_far more all len is same one two =
-    let there : StandsAt (ring_byte size old) (p + length so_far) more = subst (λ (n : ℕ). StandsAt (ring_byte size old) (p + n) more) (sym len) (stood size (p + done) old mid more same two) in
-    subst (λ (bs : List ℕ). StandsAt (ring_byte size old) p bs) (sym is) (stands_joined (ring_byte size old) p so_far more one there)
+    let there : HasBytesAt (ring_byte size old) (p + length so_far) more = subst (λ (n : ℕ). HasBytesAt (ring_byte size old) (p + n) more) (sym len) (stood size (p + done) old mid more same two) in
+    subst (λ (bs : List ℕ). HasBytesAt (ring_byte size old) p bs) (sym is) (stands_joined (ring_byte size old) p so_far more one there)
 
 -- A walk
 
@@ -184,9 +184,9 @@ module _ (size : ℕ) (name : Name) (ring : ℕ → ℕ) (start after : ℕ) whe
     pub count : number ≡ after + length before
 
   -- one group more
-  pub walked_on : (p n p2 n2 : ℕ) (bytes : List ℕ) (result : Result Bool PageFault) → Walked p n → Finds size name ring start p n bytes result → result ≡ Ok true → p2 ≡ p + length bytes → n2 ≡ n + 1 → Walked p2 n2
+  pub walked_on : (p n p2 n2 : ℕ) (bytes : List ℕ) (result : Result Bool PageFault) → Walked p n → FindsGroup size name ring start p n bytes result → result ≡ Ok true → p2 ≡ p + length bytes → n2 ≡ n + 1 → Walked p2 n2
   walked_on p n p2 n2 bytes result walked found is at count =
-      let f : Finds size name ring start p n bytes (Ok true) = subst (λ (r : Result Bool PageFault). Finds size name ring start p n bytes r) is found in
+      let f : FindsGroup size name ring start p n bytes (Ok true) = subst (λ (r : Result Bool PageFault). FindsGroup size name ring start p n bytes r) is found in
       let len : length bytes ≡ group_bytes f.1.0 = ap length f.1.1.1 ∙ length-group (record { name = name; number = n + 1; changes = f.1.0 }) in
       let spelled : Spells group_format (record { name = name; number = n + 1; changes = f.1.0 }) (bytes_from ring p (group_bytes f.1.0)) =
       subst (λ (bs : List ℕ). Spells group_format (record { name = name; number = n + 1; changes = f.1.0 }) bs) (f.0 ∙ ap (bytes_from ring p) len) f.1.1 in
@@ -199,9 +199,9 @@ module _ (size : ℕ) (name : Name) (ring : ℕ → ℕ) (start after : ℕ) whe
       }
 
   -- the end of the log
-  pub walked_all : (p n : ℕ) (bytes : List ℕ) (result : Result Bool PageFault) → Walked p n → p < start + size → Finds size name ring start p n bytes result → result ≡ Ok false → (commits : List Commit) × HasLog size name ring start after p n commits
+  pub walked_all : (p n : ℕ) (bytes : List ℕ) (result : Result Bool PageFault) → Walked p n → p < start + size → FindsGroup size name ring start p n bytes result → result ≡ Ok false → (commits : List Commit) × HasLog size name ring start after p n commits
   walked_all p n bytes result walked fits found is =
-      let shut : ring p ≢ 79 = subst (λ (r : Result Bool PageFault). Finds size name ring start p n bytes r) is found in (
+      let shut : ring p ≢ 79 = subst (λ (r : Result Bool PageFault). FindsGroup size name ring start p n bytes r) is found in (
         walked.before,
         record {
           log = log_of_groups ring name start after p walked.before walked.at walked.groups shut;
@@ -212,7 +212,7 @@ module _ (size : ℕ) (name : Name) (ring : ℕ → ℕ) (start after : ℕ) whe
       )
 
   -- it breaks off
-  pub walked_into : (p n end last : ℕ) (bytes : List ℕ) (fault : PageFault) → Walked p n → Finds size name ring start p n bytes (Err fault) → WalkFinds size name ring start after end last (Err fault)
+  pub walked_into : (p n end last : ℕ) (bytes : List ℕ) (fault : PageFault) → Walked p n → FindsGroup size name ring start p n bytes (Err fault) → WalkFinds size name ring start after end last (Err fault)
   walked_into p n end last bytes (Damaged damage) walked found = record {
     before = walked.before;
     groups = walked.groups;
@@ -261,8 +261,8 @@ module _ (size size2 start start2 p n : ℕ) (name name2 : Name) (old mid : Imag
   all : ◌≡◌ {A = ℕ × Name × ℕ × Image} (size2, name2, start2, mid) (size, name, start, old)
   all i = (same_size i, same_name i, same_start i, sym (same_image old mid same) i)
 
-  pub finds_at : (bytes : List ℕ) (result : Result Bool PageFault) → Finds size2 name2 (ring_byte size2 mid) start2 p n bytes result → Finds size name (ring_byte size old) start p n bytes result
-  finds_at bytes result found = subst (λ (x : ℕ × Name × ℕ × Image). Finds x.0 x.1 (ring_byte x.0 x.3) x.2 p n bytes result) all found
+  pub finds_at : (bytes : List ℕ) (result : Result Bool PageFault) → FindsGroup size2 name2 (ring_byte size2 mid) start2 p n bytes result → FindsGroup size name (ring_byte size old) start p n bytes result
+  finds_at bytes result found = subst (λ (x : ℕ × Name × ℕ × Image). FindsGroup x.0 x.1 (ring_byte x.0 x.3) x.2 p n bytes result) all found
 
   pub next_at : (bytes : List ℕ) (commits : List Commit) (result : Result Bool PageFault) → IsNextOf size2 name2 (ring_byte size2 mid) p n bytes commits result → IsNextOf size name (ring_byte size old) p n bytes commits result
   next_at bytes commits result next = subst (λ (x : ℕ × Name × ℕ × Image). IsNextOf x.0 x.1 (ring_byte x.0 x.3) p n bytes commits result) all next
@@ -271,11 +271,11 @@ module _ (size size2 start start2 p n : ℕ) (name name2 : Name) (old mid : Imag
   log_at commits log = subst (λ (x : ℕ × Name × ℕ × Image). IsLog (ring_byte x.0 x.3) x.1 p n commits) (sym all) log
 
 -- where the reader stands after a group, and after a closed gate
-pub went_on : (old new : RingReader) (bytes : List ℕ) (b : Bool) → b ≡ true → Goes old new bytes (Ok b) → new ≡ record old { position = old.position + length bytes; number = old.number + 1 }
-went_on old new bytes b is goes = subst (λ (x : Bool). Goes old new bytes (Ok x)) is goes
+pub went_on : (old new : RingReader) (bytes : List ℕ) (b : Bool) → b ≡ true → MovesReader old new bytes (Ok b) → new ≡ record old { position = old.position + length bytes; number = old.number + 1 }
+went_on old new bytes b is goes = subst (λ (x : Bool). MovesReader old new bytes (Ok x)) is goes
 
-pub stayed : (old new : RingReader) (bytes : List ℕ) (b : Bool) → b ≡ false → Goes old new bytes (Ok b) → new ≡ old
-stayed old new bytes b is goes = subst (λ (x : Bool). Goes old new bytes (Ok x)) is goes
+pub stayed : (old new : RingReader) (bytes : List ℕ) (b : Bool) → b ≡ false → MovesReader old new bytes (Ok b) → new ≡ old
+stayed old new bytes b is goes = subst (λ (x : Bool). MovesReader old new bytes (Ok x)) is goes
 
 -- the same at the reader's own numbers
 pub walked_at : (size : ℕ) (name : Name) (ring : ℕ → ℕ) (start after p n p2 n2 : ℕ) → p2 ≡ p → n2 ≡ n → (commits : List Commit) × HasLog size name ring start after p n commits → (commits : List Commit) × HasLog size name ring start after p2 n2 commits

@@ -1,4 +1,4 @@
--- What writes behind a log and at its gate leave of it.
+-- What writes after a log and at its gate leave of it.
 use Rattle.std.proofs.Common.{◌≡◌, ◌≢◌, ◌⊎◌, inl, inr, ℕ, zero, suc, ◌+◌, ◌-◌, ◌≤◌, ◌<◌, List, [], ◌∷◌, ◌++◌, length, take, drop, get_or, refl, sym, ◌∙◌, ap, subst, arith, length-append, length-drop}
 use Rattle.std.proofs.lemmas.Bool.{cases_eq}
 use Rattle.std.proofs.lemmas.List.{append-nil, get_or-drop, get_or_append_left, get_or-append_right}
@@ -16,7 +16,7 @@ use Rattle.mdb_bytes.specs.LogReading.{IsLog, log_bytes, bytes_from}
 use Rattle.mdb_bytes.specs.Rings.{ring_byte}
 use Rattle.mdb_bytes.proofs.GroupLaw.{bytes_from-same, length-bytes_from, length-group, group_is_long}
 use Rattle.mdb_bytes.proofs.LogLaw.{first_is_gate}
-use Rattle.redo_ring.specs.Ring.{RingTorn, StandsAt, HasGroup, IsDue, Appends, Appended}
+use Rattle.redo_ring.specs.Ring.{RingTorn, HasBytesAt, HasGroup, IsDue, Appends, Appended}
 use Rattle.redo_ring.proofs.Places.{rest_is}
 
 -- Bytes of the ring
@@ -38,7 +38,7 @@ byte_from ring p (suc n) zero lt = let e : p ≡ p + 0 = omega arith in ap ring 
 byte_from ring p (suc n) (suc i) lt = let e : p + 1 + i ≡ p + suc i = omega arith in byte_from ring (p + 1) n i (omega arith) ∙ ap ring e
 
 -- bytes that stand there are those of the ring
-pub stands_from : (ring : ℕ → ℕ) (p : ℕ) (bytes : List ℕ) → StandsAt ring p bytes → bytes_from ring p (length bytes) ≡ bytes
+pub stands_from : (ring : ℕ → ℕ) (p : ℕ) (bytes : List ℕ) → HasBytesAt ring p bytes → bytes_from ring p (length bytes) ≡ bytes
 stands_from ring p bytes stands =
     same_bytes (bytes_from ring p (length bytes)) bytes (length-bytes_from ring p (length bytes))
     (λ i lt. let inside : i < length bytes = omega (arith, length-bytes_from ring p (length bytes)) in byte_from ring p (length bytes) i inside ∙ stands i inside)
@@ -75,7 +75,7 @@ module _ (size : ℕ) (name : Name) (end last : ℕ) (changes : List Change) (gr
   abbrev due : Group
   due = record { name = name; number = last + 1; changes = changes }
 
-  -- what is written behind the gate: the group without its own, and a closed one
+  -- what is written after the gate: the group without its own, and a closed one
   abbrev pub behind : List ℕ
   behind = drop 1 (group ++ 0 ∷ [])
 
@@ -91,9 +91,9 @@ module _ (size : ℕ) (name : Name) (end last : ℕ) (changes : List Change) (gr
   behind_length : length (drop 1 (group ++ 0 ∷ [])) ≡ length group
   behind_length = omega (arith, length-drop 1 (group ++ 0 ∷ []), length-append group (0 ∷ []))
 
-  -- behind an open gate the group stands, with a closed gate after it
-  module _ (g : ℕ → ℕ) (opened : g end ≡ 79) (stands : StandsAt g (end + 1) (drop 1 (group ++ 0 ∷ []))) where
-    byte_is : StandsAt g end group
+  -- after an open gate the group stands, with a closed gate after it
+  module _ (g : ℕ → ℕ) (opened : g end ≡ 79) (stands : HasBytesAt g (end + 1) (drop 1 (group ++ 0 ∷ []))) where
+    byte_is : HasBytesAt g end group
     byte_is zero lt = let e : end + 0 ≡ end = omega arith in ap g e ∙ opened ∙ sym first
     byte_is (suc i) lt =
         let e : end + suc i ≡ end + 1 + i = omega arith in
@@ -120,18 +120,18 @@ module _ (size : ℕ) (name : Name) (end last : ℕ) (changes : List Change) (gr
     same_behind : SameUpto (ring_byte size a) (ring_byte size b) p (end + 1)
     same_behind q from to = torn.beside q (inl (omega arith, omega (arith, long, is.room)))
 
-    -- bytes behind the closed gate don't count
+    -- bytes after the closed gate don't count
     pub behind_keeps : IsLog (ring_byte size b) name p after commits
     behind_keeps =
         let shut : ring_byte size b end ≢ 79 = λ opened. gate_closed (ring_byte size a) name p after end commits is.ends is.log (sym (same_behind end (omega (arith, is.ends)) (omega arith)) ∙ opened) in
         subst (λ (l : List Commit). IsLog (ring_byte size b) name p after l) (append-nil commits)
         (log_then (ring_byte size a) (ring_byte size b) name p after end last commits [] is.ends is.count (λ q from to. same_behind q from (omega arith)) is.log shut)
 
-    module _ (stands : StandsAt (ring_byte size b) (end + 1) (drop 1 (group ++ 0 ∷ []))) (c : Image) (gate : RingTorn size end 1 b c) where
+    module _ (stands : HasBytesAt (ring_byte size b) (end + 1) (drop 1 (group ++ 0 ∷ []))) (c : Image) (gate : RingTorn size end 1 b c) where
       same_gate : SameUpto (ring_byte size a) (ring_byte size c) p end
       same_gate q from to = gate.beside q (inl (to, omega (arith, is.room))) ∙ same_behind q from (omega arith)
 
-      here : StandsAt (ring_byte size c) (end + 1) (drop 1 (group ++ 0 ∷ []))
+      here : HasBytesAt (ring_byte size c) (end + 1) (drop 1 (group ++ 0 ∷ []))
       here i lt = gate.beside (end + 1 + i) (inr (omega arith, omega (arith, behind_length, long, is.room, is.ends))) ∙ stands i lt
 
       pub opened_adds : ring_byte size c end ≡ 79 → IsLog (ring_byte size c) name p after (commits ++ record { changes = changes } ∷ [])
@@ -156,7 +156,7 @@ module _ (size : ℕ) (name : Name) (end last : ℕ) (changes : List Change) (gr
   }
 
   -- and of both
-  pub appends_both : (a b c : Image) → RingTorn size (end + 1) (length group) a b → StandsAt (ring_byte size b) (end + 1) (drop 1 (group ++ 0 ∷ [])) → RingTorn size end 1 b c → Appends size name end last changes a c
+  pub appends_both : (a b c : Image) → RingTorn size (end + 1) (length group) a b → HasBytesAt (ring_byte size b) (end + 1) (drop 1 (group ++ 0 ∷ [])) → RingTorn size end 1 b c → Appends size name end last changes a c
   appends_both a b c torn stands gate = record {
     others = λ e other. gate.others e other ∙ torn.others e other;
     same_size = gate.same_size ∙ torn.same_size;
@@ -164,7 +164,7 @@ module _ (size : ℕ) (name : Name) (end last : ℕ) (changes : List Change) (gr
     log = λ p after commits is. either a b torn p after commits is stands c gate;
   }
 
-  pub appended_both : (a b c : Image) → RingTorn size (end + 1) (length group) a b → StandsAt (ring_byte size b) (end + 1) (drop 1 (group ++ 0 ∷ [])) → RingTorn size end 1 b c → StandsAt (ring_byte size c) end (79 ∷ [])
+  pub appended_both : (a b c : Image) → RingTorn size (end + 1) (length group) a b → HasBytesAt (ring_byte size b) (end + 1) (drop 1 (group ++ 0 ∷ [])) → RingTorn size end 1 b c → HasBytesAt (ring_byte size c) end (79 ∷ [])
       → Appended size name end last changes a c
   appended_both a b c torn stands gate opened =
       let e : end ≡ end + 0 = omega arith in
@@ -177,17 +177,17 @@ module _ (size : ℕ) (name : Name) (end last : ℕ) (changes : List Change) (gr
     pub first_half : Goes d0 d1 (Appends size name end last changes)
     first_half = widen d0 d1 _ _ first_goes (λ a b left torn. appends_behind a b torn)
 
-    module _ (d2 : Disk) (kept : (image : Image) → d1.may_leave d1.now image → StandsAt (ring_byte size image) (end + 1) (drop 1 (group ++ 0 ∷ []))) (second : Goes d1 d2 (RingTorn size end 1)) where
+    module _ (d2 : Disk) (kept : (image : Image) → d1.may_leave d1.now image → HasBytesAt (ring_byte size image) (end + 1) (drop 1 (group ++ 0 ∷ []))) (second : Goes d1 d2 (RingTorn size end 1)) where
       pub both_halves : Goes d0 d2 (Appends size name end last changes)
       both_halves = chain d0 d1 d2 _ _ _ first_goes second (λ a b left torn. appends_behind a b torn) (λ a b c left torn left2 gate. appends_both a b c torn (kept b left2) gate)
 
-      pub arrives : ((image : Image) → d2.may_leave d2.now image → StandsAt (ring_byte size image) end (79 ∷ [])) → Arrives d0 d2 (Appended size name end last changes)
+      pub arrives : ((image : Image) → d2.may_leave d2.now image → HasBytesAt (ring_byte size image) end (79 ∷ [])) → Arrives d0 d2 (Appended size name end last changes)
       arrives opened c left =
           let b = second.since d2.now c second.keeps.later (omega arith) left in
           let a = first_goes.since d1.now b.0 first_goes.keeps.later (omega arith) b.1 in
           (a.0, a.1, appended_both a.0 b.0 c a.2 (kept b.0 b.1) b.2 (opened c left))
 
--- What is written is the slice behind the gate
+-- What is written is the slice after the gate
 
 module _ (size end : ℕ) (group closed : List ℕ) (is : closed ≡ group ++ 0 ∷ []) where
   -- the slice of the code
@@ -203,9 +203,9 @@ module _ (size end : ℕ) (group closed : List ℕ) (is : closed ≡ group ++ 0 
   pub behind_goes : (d0 d1 : Disk) → Goes d0 d1 (RingTorn size (end + 1) (length (take (length closed - 1) (drop 1 closed)))) → Goes d0 d1 (RingTorn size (end + 1) (length group))
   behind_goes d0 d1 goes = subst (λ (n : ℕ). Goes d0 d1 (RingTorn size (end + 1) n)) sliced_length goes
 
-  pub behind_kept : (d1 : Disk) → ((image : Image) → d1.may_leave d1.now image → StandsAt (ring_byte size image) (end + 1) (take (length closed - 1) (drop 1 closed)))
-      → (image : Image) → d1.may_leave d1.now image → StandsAt (ring_byte size image) (end + 1) (drop 1 (group ++ 0 ∷ []))
-  behind_kept d1 kept image left = subst (λ (bs : List ℕ). StandsAt (ring_byte size image) (end + 1) bs) behind_is (kept image left)
+  pub behind_kept : (d1 : Disk) → ((image : Image) → d1.may_leave d1.now image → HasBytesAt (ring_byte size image) (end + 1) (take (length closed - 1) (drop 1 closed)))
+      → (image : Image) → d1.may_leave d1.now image → HasBytesAt (ring_byte size image) (end + 1) (drop 1 (group ++ 0 ∷ []))
+  behind_kept d1 kept image left = subst (λ (bs : List ℕ). HasBytesAt (ring_byte size image) (end + 1) bs) behind_is (kept image left)
 
 -- a group has 33 bytes at least
 pub group_has : (name : Name) (number : ℕ) (bytes : List ℕ) → HasGroup name number bytes → 33 ≤ length bytes

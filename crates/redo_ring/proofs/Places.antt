@@ -9,7 +9,11 @@ use Rattle.mdb_host.proofs.Moments.{widen, onward}
 use Rattle.mdb_model.specs.Images.{Image, size_of, byte_at}
 use Rattle.mdb_host.specs.Disk.{Disk, Goes, Calls, Synced, Torn, Agree, Outside, Has}
 use Rattle.mdb_bytes.specs.Rings.{ring_byte}
-use Rattle.redo_ring.specs.Ring.{Beside, RingTorn, StandsAt}
+use Rattle.mdb_host.specs.declared.host.Host as host
+use Rattle.redo_ring.specs.Ring.{Beside, RingTorn, HasBytesAt}
+use Rattle.redo_ring.specs.Writes.{WritesRing}
+-- crates above cite it from here
+pub use Rattle.mdb_host.proofs.Moments.{agree_on}
 
 -- a further whole turn is a product more
 turn : (a b s : ℕ) → a < b → a * s + s ≤ b * s
@@ -116,6 +120,14 @@ module _ (s x done n : ℕ) (bytes rest : List ℕ) (is : rest ≡ drop done byt
   pub goes_more : (old mid new : Disk) → Goes old mid (RingTorn s x (length bytes)) → Goes mid new (RingTorn s (x + done) (length rest)) → Goes old new (RingTorn s x (length bytes))
   goes_more old mid new so_far piece = onward old mid new _ (torn_trans s x (length bytes)) so_far (widen mid new _ _ piece (λ a b left torn. rest_torn a b torn))
 
+  -- the devices after one more
+  pub ring_more : {H : Type 0} (h : host.Ghosts H) (old mid new : H) → WritesRing h s x (length bytes) old mid → WritesRing h s (x + done) (length rest) mid new → WritesRing h s x (length bytes) old new
+  ring_more h old mid new so_far piece = record {
+    goes = λ told. goes_more (h.disk old) (h.disk mid) (h.disk new) (so_far.goes told) (piece.goes told);
+    seen = λ told. torn_trans s x (length bytes) (h.disk old).seen (h.disk mid).seen (h.disk new).seen (so_far.seen told) (rest_torn (h.disk mid).seen (h.disk new).seen (piece.seen told));
+    say_faults = piece.say_faults ∙ so_far.say_faults;
+  }
+
   pub written_more : (old new : Image) → ((i : ℕ) → i < done → ring_byte s old (x + i) ≡ get_or bytes i 0)
       → RingTorn s (x + done) (length rest) old new
       → ((i : ℕ) → i < n → ring_byte s new (x + done + i) ≡ get_or rest i 0)
@@ -134,13 +146,13 @@ pub rest_is : (done : ℕ) (bytes : List ℕ) → take (length bytes - done) (dr
 rest_is done bytes = take_all (length bytes - done) (drop done bytes) (omega (arith, length-drop done bytes))
 
 -- after a sync each image has what was written
-pub stands_kept : (s x : ℕ) (bytes : List ℕ) (mid new : Disk) → StandsAt (ring_byte s mid.seen) x bytes → Agree mid.seen new.seen → Synced new Log → (image : Image) → new.may_leave new.now image → StandsAt (ring_byte s image) x bytes
+pub stands_kept : (s x : ℕ) (bytes : List ℕ) (mid new : Disk) → HasBytesAt (ring_byte s mid.seen) x bytes → Agree mid.seen new.seen → Synced new Log → (image : Image) → new.may_leave new.now image → HasBytesAt (ring_byte s image) x bytes
 stands_kept s x bytes mid new spells same synced image left i lt = ap (λ o. byte_at o (16384 + (x + i) % s)) (synced image left ∙ same Log) ∙ spells i lt
 
 -- Reading
 
 -- bytes of one piece stand there
-pub piece_stands : (s x : ℕ) (image : Image) (bytes : List ℕ) → x % s + length bytes ≤ s → Has image Log (16384 + x % s) bytes → StandsAt (ring_byte s image) x bytes
+pub piece_stands : (s x : ℕ) (image : Image) (bytes : List ℕ) → x % s + length bytes ≤ s → Has image Log (16384 + x % s) bytes → HasBytesAt (ring_byte s image) x bytes
 piece_stands s x image bytes fits has i lt = piece_byte s x image bytes i fits has lt
 
 -- where the ring turns
@@ -150,7 +162,7 @@ turned s x n some whole =
     ap (λ (k : ℕ). k % s) e ∙ mod-mul-add (suc (x / s)) s 0 some
 
 -- a first part and a second one
-pub stands_joined : (ring : ℕ → ℕ) (x : ℕ) (a b : List ℕ) → StandsAt ring x a → StandsAt ring (x + length a) b → StandsAt ring x (a ++ b)
+pub stands_joined : (ring : ℕ → ℕ) (x : ℕ) (a b : List ℕ) → HasBytesAt ring x a → HasBytesAt ring (x + length a) b → HasBytesAt ring x (a ++ b)
 stands_joined ring x a b one two i lt = elim (cases_lt i (length a)) [
   | inl first ↦ one i first ∙ sym (get_or_append_left a b 0 i first)
   | inr later ↦
@@ -160,17 +172,13 @@ stands_joined ring x a b one two i lt = elim (cases_lt i (length a)) [
 
 module _ (s x : ℕ) (old mid : Image) (a b : List ℕ) (some : 0 < s) (short : length a + length b ≤ s) (whole : x % s + length a ≡ s) (same : Agree old mid) (first : Has old Log (16384 + x % s) a) (second : Has mid Log 16384 b) where
   -- the piece before the turn and the one after it
-  pub both_stand : StandsAt (ring_byte s old) x (a ++ b)
+  pub both_stand : HasBytesAt (ring_byte s old) x (a ++ b)
   both_stand = stands_joined (ring_byte s old) x a b (piece_stands s x old a (omega arith) first) (λ i lt.
       let at : (x + length a) % s ≡ 0 = turned s x (length a) some whole in
       let place : 16384 + (x + length a + i) % s ≡ 16384 + i = omega (arith, further s (x + length a) i (omega arith)) in
       ap (λ (k : ℕ). byte_at (old Log) k) place ∙ ap (λ o. byte_at o (16384 + i)) (sym (same Log)) ∙ second i lt)
 
--- nothing behind the first part
-pub whole_front : (s x : ℕ) (image : Image) (a b : List ℕ) → length b ≡ 0 → StandsAt (ring_byte s image) x a → StandsAt (ring_byte s image) x (a ++ b)
-whole_front s x image a [] none stands = subst (λ (l : List ℕ). StandsAt (ring_byte s image) x l) (sym (append-nil a)) stands
+-- nothing after the first part
+pub whole_front : (s x : ℕ) (image : Image) (a b : List ℕ) → length b ≡ 0 → HasBytesAt (ring_byte s image) x a → HasBytesAt (ring_byte s image) x (a ++ b)
+whole_front s x image a [] none stands = subst (λ (l : List ℕ). HasBytesAt (ring_byte s image) x l) (sym (append-nil a)) stands
 whole_front s x image a (y ∷ b) none stands = absurd (omega arith)
-
--- two calls that change no device
-pub agree_on : (d0 d1 d2 : Disk) → Goes d0 d1 Agree → Goes d1 d2 Agree → Goes d0 d2 Agree
-agree_on d0 d1 d2 one two = onward d0 d1 d2 Agree (λ a b c first second e. second e ∙ first e) one two

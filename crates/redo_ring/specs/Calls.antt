@@ -8,14 +8,19 @@ use Rattle.redo_ring.specs.declared.fault.RingFault.{RingFault}
 use Rattle.redo_ring.specs.declared.fault.RingFault.TheVariants.{Full, Pinned, Failed}
 use Rattle.redo_ring.specs.declared.ring.Ring.{Ring}
 
+-- the numbers of a ring fit each other; they are counted as in src/ring.rt
 pub record InOrder (ring : Ring) : Type 0 where
+  -- (1)
   pub size : IsRingSize ring.size
+  -- (2)
   pub saved : ring.saved_position ≤ ring.end_position
   pub redo : ring.redo_position ≤ ring.end_position
+  -- (3)
   pub low : ring.end_position < 2 ^ 63
+  -- (4)
   pub count : ring.last_commit < 2 ^ 61 + ring.end_position
 
--- A group of n bytes is refused where it, with a closed gate behind it, does not fit beside the
+-- A group of n bytes is refused where it, with a closed gate after it, does not fit beside the
 -- bytes that are not saved, and else where it does not fit beside those that a restart reads.
 abbrev pub AppendAnswer : (size unsaved needed n : ℕ) → Result (Unit {0}) RingFault → Type 0
 AppendAnswer size unsaved needed n (Ok done) = (unsaved + n + 1 ≤ size) × (needed + n + 1 ≤ size)

@@ -8,19 +8,20 @@ use Rattle.mdb_model.specs.declared.fault.PageFault.{PageFault}
 use Rattle.mdb_model.specs.declared.fault.PageFault.TheVariants.{Failed, Damaged}
 use Rattle.mdb_model.specs.declared.name.Name.{Name}
 use Rattle.mdb_bytes.specs.LogReading.{log_bytes}
+use Rattle.mdb_bytes.specs.Rings.{ring_size}
 use Rattle.redo_ring.specs.declared.open.LogStart.{LogStart}
 use Rattle.redo_ring.specs.declared.open.LogEnd.{LogEnd}
 use Rattle.redo_ring.specs.Ring.{HasLog}
-use Rattle.redo_ring.specs.Reading.{Breaks}
-use Rattle.redo_ring.specs.Opening.{ring_size, HasBoth, Parts}
+use Rattle.redo_ring.specs.Reading.{LogBreaks}
+use Rattle.redo_ring.specs.Opening.{HasBoth, Parts}
 
--- it is less than a turn behind its beginning
+-- it is less than a turn after its beginning
 pub record IsEnd (size start : ℕ) (end : LogEnd) : Type 0 where
   pub from : start ≤ end.position
   pub upto : end.position < start + size
   pub count : end.commit < 2 ^ 61 + end.position
 
--- neither beginning is behind it, and it is less than a turn behind a restart's
+-- neither beginning is after it, and it is less than a turn after a restart's
 pub record IsEndOf (start : LogStart) (end : LogEnd) : Type 0 where
   pub from : start.position ≤ end.position
   pub saved : start.saved_position ≤ end.position
@@ -35,7 +36,7 @@ abbrev pub EndFinds : (size : ℕ) → Name → (ring : ℕ → ℕ) → (start 
 EndFinds size name ring start after (Ok end) =
     (commits : List Commit) × HasLog size name ring start after end.position end.commit commits
 EndFinds size name ring start after (Err (Damaged damage)) =
-    Breaks size name ring start after damage
+    LogBreaks size name ring start after damage
 EndFinds size name ring start after (Err Failed) = Unit {0}
 
 -- the end of a log that is there
@@ -49,8 +50,9 @@ EndEnds start after commits (Err Failed) = Unit {0}
 abbrev pub BothFinds : LogStart → (ring : ℕ → ℕ) → Result LogEnd PageFault → Type 0
 BothFinds start ring (Ok end) = HasBoth start ring end.position end.commit
 BothFinds start ring (Err (Damaged damage)) =
-    Breaks (ring_size start.pages) start.name ring start.position start.commit damage
-    ⊎ (Breaks (ring_size start.pages) start.name ring start.saved_position start.saved_commit damage
+    LogBreaks (ring_size start.pages) start.name ring start.position start.commit damage
+    ⊎ (LogBreaks (ring_size start.pages) start.name ring start.saved_position start.saved_commit
+    damage
     ⊎ Parts start ring damage)
 BothFinds start ring (Err Failed) = Unit {0}
 

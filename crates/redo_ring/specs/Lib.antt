@@ -3,3 +3,4 @@ pub mod Calls
 pub mod Reading
 pub mod Opening
 pub mod Ends
+pub mod Writes

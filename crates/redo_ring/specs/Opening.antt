@@ -1,25 +1,21 @@
 -- Opening a log: from where a restart reads, and from where the log is not saved. Both ways have to
 -- end at one place.
 --     IsStart      the numbers of a beginning fit each other
---     IsOpened      the ring that was opened from there
+--     IsRingOpened      the ring that was opened from there
 --     OpenFinds      what stands in the log where it is opened, and where it is not
 --     IsWhole, OpenEnds      a log that is whole is opened
-use Rattle.std.specs.Prelude.{◌≡◌, ◌≢◌, ◌⊎◌, ℕ, ◌+◌, ◌-◌, ◌*◌, ◌^◌, ◌<◌, ◌≤◌, List, length, Result, Ok, Err}
+use Rattle.std.specs.Prelude.{◌≡◌, ◌≢◌, ◌⊎◌, ℕ, ◌+◌, ◌^◌, ◌<◌, ◌≤◌, List, length, Result, Ok, Err}
 use Rattle.mdb_model.specs.declared.change.Commit.{Commit}
 use Rattle.mdb_model.specs.declared.fault.Damage.{Damage}
 use Rattle.mdb_model.specs.declared.fault.OpenFault.{OpenFault}
 use Rattle.mdb_model.specs.declared.fault.OpenFault.TheVariants.{Memory, Failed, Damaged}
 use Rattle.mdb_bytes.specs.LogReading.{IsLog, log_bytes}
-use Rattle.mdb_bytes.specs.Rings.{IsRingSize}
+use Rattle.mdb_bytes.specs.Rings.{IsRingSize, ring_size}
 use Rattle.redo_ring.specs.declared.ring.Ring.{Ring}
 use Rattle.redo_ring.specs.declared.open.LogStart.{LogStart}
 use Rattle.redo_ring.specs.Ring.{HasLog, damage_at}
-use Rattle.redo_ring.specs.Reading.{Breaks}
+use Rattle.redo_ring.specs.Reading.{LogBreaks}
 use Rattle.redo_ring.specs.Calls.{InOrder}
-
--- the bytes of the ring of a log volume of so many pages
-abbrev pub ring_size : (pages : ℕ) → ℕ
-ring_size pages = (pages - 2) * 8192
 
 pub record IsStart (start : LogStart) : Type 0 where
   pub size : IsRingSize (ring_size start.pages)
@@ -28,12 +24,13 @@ pub record IsStart (start : LogStart) : Type 0 where
   pub saved_low : start.saved_position < 2 ^ 62
   pub saved_count : start.saved_commit < 2 ^ 61 + start.saved_position
 
-pub record IsOpened (start : LogStart) (ring : Ring) : Type 0 where
+pub record IsRingOpened (start : LogStart) (ring : Ring) : Type 0 where
   pub order : InOrder ring
   pub name : ring.name ≡ start.name
   pub size : ring.size ≡ ring_size start.pages
   pub redo : ring.redo_position ≡ start.position
   pub saved : ring.saved_position ≡ start.saved_position
+  pub saved_number : ring.saved_commit ≡ start.saved_commit
   pub room : ring.end_position < start.position + ring.size
   -- a commit has more than one byte
   pub grown : ring.last_commit + start.position ≤ start.commit + ring.end_position
@@ -47,7 +44,7 @@ pub record HasBoth (start : LogStart) (ring : ℕ → ℕ) (end last : ℕ) : Ty
   pub unsaved_log : HasLog (ring_size start.pages) start.name ring start.saved_position
       start.saved_commit end last unsaved
 
--- they end at two places: the damage is told of the first
+-- they end at two places: the damage is reported at the first
 pub record Parts (start : LogStart) (ring : ℕ → ℕ) (damage : Damage) : Type 0 where
   pub end : ℕ
   pub last : ℕ
@@ -65,8 +62,9 @@ pub record Parts (start : LogStart) (ring : ℕ → ℕ) (damage : Damage) : Typ
 abbrev pub OpenFinds : LogStart → (ring : ℕ → ℕ) → Result Ring OpenFault → Type 0
 OpenFinds start ring (Ok opened) = HasBoth start ring opened.end_position opened.last_commit
 OpenFinds start ring (Err (Damaged damage)) =
-    Breaks (ring_size start.pages) start.name ring start.position start.commit damage
-    ⊎ (Breaks (ring_size start.pages) start.name ring start.saved_position start.saved_commit damage
+    LogBreaks (ring_size start.pages) start.name ring start.position start.commit damage
+    ⊎ (LogBreaks (ring_size start.pages) start.name ring start.saved_position start.saved_commit
+    damage
     ⊎ Parts start ring damage)
 OpenFinds start ring (Err Memory) = Unit {0}
 OpenFinds start ring (Err Failed) = Unit {0}

@@ -1,6 +1,6 @@
 -- What a reader of the ring finds.
 --     IsReader      the numbers of a reader fit each other
---     Finds, Goes      what it finds at its position, and where it stands then
+--     FindsGroup, MovesReader      what it finds at its position, and where it stands then
 --     IsNextOf      the same of a log that is known
 --     WalkFinds, WalkEnds      what a walk over the whole log finds
 use Rattle.std.specs.Prelude.{◌≡◌, ◌≢◌, ℕ, ◌+◌, ◌^◌, ◌<◌, ◌≤◌, List, [], ◌∷◌, length, Bool, true, false, Result, Ok, Err}
@@ -18,7 +18,7 @@ use Rattle.mdb_bytes.specs.Rings.{IsRingSize}
 use Rattle.redo_ring.specs.declared.reader.RingReader.{RingReader}
 use Rattle.redo_ring.specs.Ring.{HasGroup, HasLog, damage_at}
 
--- it stands less than a turn behind its start
+-- it stands less than a turn after its start
 pub record IsReader (reader : RingReader) : Type 0 where
   pub size : IsRingSize reader.size
   pub from : reader.start ≤ reader.position
@@ -35,23 +35,23 @@ NoGroup size name ring start position number =
 
 -- What a reader finds at its position: the group that is due, with an open gate; a closed gate; or
 -- an open gate before bytes that are not the group that is due, or one that ends a turn of the ring
--- behind the start.
-abbrev pub Finds : (size : ℕ) → Name → (ring : ℕ → ℕ) → (start position number : ℕ)
+-- after the start.
+abbrev pub FindsGroup : (size : ℕ) → Name → (ring : ℕ → ℕ) → (start position number : ℕ)
     → (bytes : List ℕ) → Result Bool PageFault → Type 0
-Finds size name ring start position number bytes (Ok true) =
+FindsGroup size name ring start position number bytes (Ok true) =
     (bytes ≡ bytes_from ring position (length bytes)) × HasGroup name (number + 1) bytes
-Finds size name ring start position number bytes (Ok false) = ring position ≢ open_gate
-Finds size name ring start position number bytes (Err (Damaged damage)) =
+FindsGroup size name ring start position number bytes (Ok false) = ring position ≢ open_gate
+FindsGroup size name ring start position number bytes (Err (Damaged damage)) =
     (damage ≡ damage_at size position) × (ring position ≡ open_gate)
     × NoGroup size name ring start position number
-Finds size name ring start position number bytes (Err Failed) = Unit {0}
+FindsGroup size name ring start position number bytes (Err Failed) = Unit {0}
 
 -- where the reader stands after it
-abbrev pub Goes : (old new : RingReader) → (bytes : List ℕ) → Result Bool PageFault → Type 0
-Goes old new bytes (Ok true) =
+abbrev pub MovesReader : (old new : RingReader) → (bytes : List ℕ) → Result Bool PageFault → Type 0
+MovesReader old new bytes (Ok true) =
     new ≡ record old { position = old.position + length bytes; number = old.number + 1 }
-Goes old new bytes (Ok false) = new ≡ old
-Goes old new bytes (Err fault) = new ≡ old
+MovesReader old new bytes (Ok false) = new ≡ old
+MovesReader old new bytes (Err fault) = new ≡ old
 
 -- Of a log of these commits from the position on: the group is that of the first one.
 abbrev pub IsNextOf : (size : ℕ) → Name → (ring : ℕ → ℕ) → (position number : ℕ) → (bytes : List ℕ)
@@ -68,7 +68,7 @@ IsNextOf size name ring position number bytes commits (Err Failed) = Unit {0}
 
 -- Walks over a whole log
 
--- the groups of these commits stand one behind the other with open gates
+-- the groups of these commits stand one after the other with open gates
 abbrev pub AreGroups : (ℕ → ℕ) → Name → (position after : ℕ) → List Commit → Type 0
 AreGroups ring name position after [] = Unit {0}
 AreGroups ring name position after (commit ∷ commits) =
@@ -76,9 +76,9 @@ AreGroups ring name position after (commit ∷ commits) =
     (bytes_from ring position (group_bytes commit.changes))
     × AreGroups ring name (position + group_bytes commit.changes) (after + 1) commits
 
--- behind the groups of some commits an open gate stands before bytes that are not the group that is
+-- after the groups of some commits an open gate stands before bytes that are not the group that is
 -- due
-pub record Breaks (size : ℕ) (name : Name) (ring : ℕ → ℕ) (start after : ℕ) (damage : Damage)
+pub record LogBreaks (size : ℕ) (name : Name) (ring : ℕ → ℕ) (start after : ℕ) (damage : Damage)
     : Type 0 where
   pub before : List Commit
   pub groups : AreGroups ring name start after before
@@ -93,7 +93,7 @@ abbrev pub WalkFinds : (size : ℕ) → Name → (ring : ℕ → ℕ) → (start
 WalkFinds size name ring start after end last (Ok done) =
     (commits : List Commit) × HasLog size name ring start after end last commits
 WalkFinds size name ring start after end last (Err (Damaged damage)) =
-    Breaks size name ring start after damage
+    LogBreaks size name ring start after damage
 WalkFinds size name ring start after end last (Err Failed) = Unit {0}
 
 -- a log that is there is found

@@ -1,6 +1,6 @@
 -- What calls on the ring do.
 --     RingTorn      some positions hold anything, all else is as before
---     StandsAt      these bytes stand from a position on
+--     HasBytesAt      these bytes stand from a position on
 --     HasGroup      the bytes are the group of the commit that is due
 --     IsDue      a log that ends where the next group is to stand, which has room
 --     Appends, Appended      each such log is as before or has one commit more; has one commit more
@@ -32,8 +32,8 @@ pub record RingTorn (size a n : ℕ) (old new : Image) : Type 0 where
   pub beside : (q : ℕ) → Beside size a n q → ring_byte size new q ≡ ring_byte size old q
 
 -- these bytes stand from the position on
-abbrev pub StandsAt : (ℕ → ℕ) → ℕ → List ℕ → Type 0
-StandsAt ring p bytes = (i : ℕ) → i < length bytes → ring (p + i) ≡ get_or bytes i 0
+abbrev pub HasBytesAt : (ℕ → ℕ) → ℕ → List ℕ → Type 0
+HasBytesAt ring p bytes = (i : ℕ) → i < length bytes → ring (p + i) ≡ get_or bytes i 0
 
 -- the bytes are the group of a commit of this number
 abbrev pub HasGroup : Name → (number : ℕ) → List ℕ → Type 0
@@ -42,12 +42,15 @@ HasGroup name number bytes =
     (record { name = name; number = number; changes = changes }) bytes
 
 -- From p on, after commit `after`, stand these commits, and the next group is due at `end` with the
--- number behind `last`. A group of n bytes has room there, with a closed gate behind it.
+-- number after `last`. A group of n bytes has room there, with a closed gate after it.
 pub record IsDue (size : ℕ) (name : Name) (end last n : ℕ) (ring : ℕ
     → ℕ) (p after : ℕ) (commits : List Commit) : Type 0 where
+  -- (5) of src/ring.rt
   pub log : IsLog ring name p after commits
   pub ends : p + log_bytes commits ≡ end
+  -- (6)
   pub count : after + length commits ≡ last
+  -- (7)
   pub room : end + n + 1 ≤ p + size
 
 -- each log that ends here is as before, or has one commit more

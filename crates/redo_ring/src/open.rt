@@ -2,12 +2,13 @@
 ghost use Rattle.std.specs.Prelude.{◌≡◌, ℕ, ◌+◌, ◌≤◌, ◌<◌, ◌^◌, List, Err, IfOk};
 ghost use Rattle.mdb_model.specs.Causes.{Rose};
 ghost use Rattle.mdb_model.specs.declared.change.Commit.{Commit};
-ghost use Rattle.mdb_host.specs.Disk.{Disk, Goes as Runs, Agree};
+ghost use Rattle.mdb_host.specs.Disk.{Disk, Goes, Agree};
+ghost use Rattle.mdb_host.specs.Reads.{ReadsOnly};
 ghost use Rattle.mdb_bytes.specs.LogReading.{IsLog, log_bytes};
-ghost use Rattle.mdb_bytes.specs.Rings.{HasRing, IsRingSize, ring_byte};
+ghost use Rattle.mdb_bytes.specs.Rings.{HasRing, IsRingSize, ring_byte, ring_size};
 ghost use Rattle.redo_ring.specs.Ring.{damage_at};
 ghost use Rattle.redo_ring.specs.Ends.{IsEnd, IsEndOf, EndFinds, EndEnds, BothFinds, BothEnds};
-ghost use Rattle.redo_ring.specs.Opening.{ring_size, IsStart, IsOpened, OpenFinds, IsWhole, OpenEnds};
+ghost use Rattle.redo_ring.specs.Opening.{IsStart, IsRingOpened, OpenFinds, IsWhole, OpenEnds};
 ghost use Rattle.redo_ring.specs.Reading.{IsReader};
 
 use crate::reader::{RingReader, walk};
@@ -48,14 +49,17 @@ impl Ring {
     pub fn open<H: Host>(alloc: Global, host: &mut H, start: &LogStart) -> Result<Ring, OpenFault>
         requires start { IsStart start.now }
         requires ring { H.tells → HasRing (ring_size start.now.pages) (H.disk host.old).seen }
-        ensures calm { H.tells → Runs (H.disk host.old) (H.disk host.new) Agree }
+        // The devices.
+        ensures calm { H.tells → Goes (H.disk host.old) (H.disk host.new) Agree }
         ensures seen { H.tells → Agree (H.disk host.old).seen (H.disk host.new).seen }
-        ensures opened { IfOk result (λ ring. IsOpened start.now ring) }
+        // The result.
+        ensures opened { IfOk result (λ ring. IsRingOpened start.now ring) }
         ensures finds { H.tells → OpenFinds start.now
             (ring_byte (ring_size start.now.pages) (H.disk host.old).seen) result }
         ensures ends { H.tells → (commits unsaved : List Commit)
             → IsWhole start.now (ring_byte (ring_size start.now.pages) (H.disk host.old).seen)
             commits unsaved → OpenEnds start.now commits result }
+        // The faults.
         ensures later { H.faults host.old ≤ H.faults host.new }
         ensures cause { result ≡ Err OpenFault.Failed
             → Rose (H.faults host.old) (H.faults host.new) }
@@ -71,7 +75,7 @@ impl Ring {
         }
     }
 
-    /// A reader of the groups from a position on, behind this commit.
+    /// A reader of the groups from a position on, after this commit.
     pub fn reader(&self, position: u64, commit: u64) -> RingReader
         requires size { IsRingSize self.now.size }
         requires low { position < 2 ^ 62 }
@@ -107,7 +111,7 @@ fn ring_len(pages: u32) -> u64
 fn ring_of(start: &LogStart, end: LogEnd) -> Ring
     requires start { IsStart start.now }
     requires end { IsEndOf start.now end }
-    ensures opened { IsOpened start.now result }
+    ensures opened { IsRingOpened start.now result }
     ensures ends { (result.end_position ≡ end.position) × (result.last_commit ≡ end.commit) }
 {
     Ring {
@@ -115,6 +119,7 @@ fn ring_of(start: &LogStart, end: LogEnd) -> Ring
         size: ring_len(start.pages),
         redo_position: start.position,
         saved_position: start.saved_position,
+        saved_commit: start.saved_commit,
         end_position: end.position,
         last_commit: end.commit,
     }
@@ -133,8 +138,7 @@ fn log_end<H: Host>(
     requires low { position < 2 ^ 62 }
     requires count { commit < 2 ^ 61 + position }
     requires ring { H.tells → HasRing size (H.disk host.old).seen }
-    ensures calm { H.tells → Runs (H.disk host.old) (H.disk host.new) Agree }
-    ensures seen { H.tells → Agree (H.disk host.old).seen (H.disk host.new).seen }
+    ensures reads { ReadsOnly H.Host host.old host.new }
     ensures order { IfOk result (λ end. IsEnd size position end) }
     ensures grown { IfOk result (λ end. end.commit + position ≤ commit + end.position) }
     ensures finds { H.tells → EndFinds size name (ring_byte size (H.disk host.old).seen) position
@@ -142,9 +146,7 @@ fn log_end<H: Host>(
     ensures ends { H.tells → (commits : List Commit)
         → IsLog (ring_byte size (H.disk host.old).seen) name position commit commits
         → log_bytes commits < size → EndEnds position commit commits result }
-    ensures later { H.faults host.old ≤ H.faults host.new }
     ensures cause { result ≡ Err PageFault.Failed → Rose (H.faults host.old) (H.faults host.new) }
-    ensures say_faults { H.say_faults host.new ≡ H.say_faults host.old }
 {
     let mut reader = RingReader {
         name,
@@ -153,13 +155,11 @@ fn log_end<H: Host>(
         position,
         number: commit,
     };
-    match walk(host, &mut reader, into) {
-        Ok(()) => Ok(LogEnd {
-            position: reader.position,
-            commit: reader.number,
-        }),
-        Err(fault) => Err(fault),
-    }
+    walk(host, &mut reader, into)?;
+    Ok(LogEnd {
+        position: reader.position,
+        commit: reader.number,
+    })
 }
 
 // The end of the log, both from where a restart begins and from where it is not saved.
@@ -170,37 +170,28 @@ fn both_ends<H: Host>(
 ) -> Result<LogEnd, PageFault>
     requires start { IsStart start.now }
     requires ring { H.tells → HasRing (ring_size start.now.pages) (H.disk host.old).seen }
-    ensures calm { H.tells → Runs (H.disk host.old) (H.disk host.new) Agree }
-    ensures seen { H.tells → Agree (H.disk host.old).seen (H.disk host.new).seen }
+    ensures reads { ReadsOnly H.Host host.old host.new }
     ensures order { IfOk result (λ end. IsEndOf start.now end) }
     ensures finds { H.tells → BothFinds start.now
         (ring_byte (ring_size start.now.pages) (H.disk host.old).seen) result }
     ensures ends { H.tells → (commits unsaved : List Commit)
         → IsWhole start.now (ring_byte (ring_size start.now.pages) (H.disk host.old).seen) commits
         unsaved → BothEnds start.now commits result }
-    ensures later { H.faults host.old ≤ H.faults host.new }
     ensures cause { result ≡ Err PageFault.Failed → Rose (H.faults host.old) (H.faults host.new) }
-    ensures say_faults { H.say_faults host.new ≡ H.say_faults host.old }
 {
     let size = ring_len(start.pages);
-    let end = match log_end(host, start.name, size, start.position, start.commit, into) {
-        Ok(end) => end,
-        Err(fault) => return Err(fault),
-    };
+    let end = log_end(host, start.name, size, start.position, start.commit, into)?;
     if start.saved_position == start.position && start.saved_commit == start.commit {
         return Ok(end);
     }
-    let unsaved = match log_end(
+    let unsaved = log_end(
         host,
         start.name,
         size,
         start.saved_position,
         start.saved_commit,
         into,
-    ) {
-        Ok(unsaved) => unsaved,
-        Err(fault) => return Err(fault),
-    };
+    )?;
     if end.position != unsaved.position || end.commit != unsaved.commit {
         return Err(parted(size, end.position));
     }

@@ -2,9 +2,11 @@
 ghost use Rattle.std.specs.Prelude.{◌≡◌, ◌⊎◌, ℕ, ◌+◌, ◌*◌, ◌≤◌, ◌<◌, ◌^◌, List, length, IfOk, OnOk, get_or, take};
 ghost use Rattle.mdb_model.specs.Causes.{HasCause};
 ghost use Rattle.mdb_model.specs.Images.{Image};
-ghost use Rattle.mdb_host.specs.Disk.{Disk, Goes, Agree};
+ghost use Rattle.mdb_host.specs.Disk.{Disk};
+ghost use Rattle.mdb_host.specs.Reads.{ReadsOnly};
 ghost use Rattle.mdb_bytes.specs.Rings.{HasRing, ring_byte};
-ghost use Rattle.redo_ring.specs.Ring.{RingTorn, StandsAt};
+ghost use Rattle.redo_ring.specs.Ring.{HasBytesAt};
+ghost use Rattle.redo_ring.specs.Writes.{WritesRing};
 
 use mdb_host::{Device, Failed, Host};
 
@@ -21,14 +23,10 @@ fn write_piece<H: Host>(
     requires some { 0 < length bytes.now }
     requires ring { H.tells → HasRing size (H.disk host.old).seen }
     ensures count { IfOk result (λ n. (0 < n) × (n ≤ length bytes.now)) }
-    ensures goes { H.tells → Goes (H.disk host.old) (H.disk host.new)
-        (RingTorn size position (length bytes.now)) }
-    ensures seen { H.tells → RingTorn size position (length bytes.now) (H.disk host.old).seen
-        (H.disk host.new).seen }
+    ensures writes { WritesRing H.Host size position (length bytes.now) host.old host.new }
     ensures written { IfOk result (λ n. H.tells → (i : ℕ) → i < n
         → ring_byte size (H.disk host.new).seen (position + i) ≡ get_or bytes.now i 0) }
     ensures cause { HasCause (H.faults host.old) (H.faults host.new) result }
-    ensures say_faults { H.say_faults host.new ≡ H.say_faults host.old }
 {
     let at = position % size;
     let n = piece_len(size, at, bytes.len());
@@ -65,14 +63,10 @@ pub(crate) fn write_ring<H: Host>(
     requires low { position < 2 ^ 62 }
     requires fits { length bytes.now ≤ size }
     requires ring { H.tells → HasRing size (H.disk host.old).seen }
-    ensures goes { H.tells → Goes (H.disk host.old) (H.disk host.new)
-        (RingTorn size position (length bytes.now)) }
-    ensures seen { H.tells → RingTorn size position (length bytes.now) (H.disk host.old).seen
-        (H.disk host.new).seen }
+    ensures writes { WritesRing H.Host size position (length bytes.now) host.old host.new }
     ensures written { OnOk result (H.tells
-        → StandsAt (ring_byte size (H.disk host.new).seen) position bytes.now) }
+        → HasBytesAt (ring_byte size (H.disk host.new).seen) position bytes.now) }
     ensures cause { HasCause (H.faults host.old) (H.faults host.new) result }
-    ensures say_faults { H.say_faults host.new ≡ H.say_faults host.old }
 {
     let mut done = 0;
     while done < bytes.len() {
@@ -93,15 +87,11 @@ pub(crate) fn write_ring_kept<H: Host>(
     requires low { position < 2 ^ 62 }
     requires fits { length bytes.now ≤ size }
     requires ring { H.tells → HasRing size (H.disk host.old).seen }
-    ensures goes { H.tells → Goes (H.disk host.old) (H.disk host.new)
-        (RingTorn size position (length bytes.now)) }
-    ensures seen { H.tells → RingTorn size position (length bytes.now) (H.disk host.old).seen
-        (H.disk host.new).seen }
+    ensures writes { WritesRing H.Host size position (length bytes.now) host.old host.new }
     ensures kept { OnOk result (H.tells → (image : Image)
         → (H.disk host.new).may_leave (H.disk host.new).now image
-        → StandsAt (ring_byte size image) position bytes.now) }
+        → HasBytesAt (ring_byte size image) position bytes.now) }
     ensures cause { HasCause (H.faults host.old) (H.faults host.new) result }
-    ensures say_faults { H.say_faults host.new ≡ H.say_faults host.old }
 {
     write_ring(host, size, position, bytes)?;
     host.sync(Device::Log)
@@ -118,12 +108,10 @@ pub(crate) fn read_ring<H: Host>(
     requires small { size < 2 ^ 62 }
     requires one_call { length into.old ≤ 8192 }
     requires ring { H.tells → HasRing size (H.disk host.old).seen }
-    ensures calm { H.tells → Goes (H.disk host.old) (H.disk host.new) Agree }
-    ensures seen { H.tells → Agree (H.disk host.old).seen (H.disk host.new).seen }
+    ensures reads { ReadsOnly H.Host host.old host.new }
     ensures bytes { OnOk result (H.tells
-        → StandsAt (ring_byte size (H.disk host.old).seen) position into.new) }
+        → HasBytesAt (ring_byte size (H.disk host.old).seen) position into.new) }
     ensures cause { HasCause (H.faults host.old) (H.faults host.new) result }
-    ensures say_faults { H.say_faults host.new ≡ H.say_faults host.old }
 {
     let at = position % size;
     let (front, rest) = into.split_at_mut(piece_len(size, at, into.len()));

@@ -2,11 +2,12 @@
 ghost use Rattle.std.specs.Prelude.{◌≡◌, ◌↔◌, ℕ, ◌+◌, ◌≤◌, ◌<◌, ◌^◌, List, ◌++◌, length, Err, IfOk, OnOk, IsTrue, true};
 ghost use Rattle.mdb_model.specs.Causes.{Rose, HasCause};
 ghost use Rattle.mdb_model.specs.declared.change.Commit.{Commit};
-ghost use Rattle.mdb_host.specs.Disk.{Disk, Goes as Runs, Agree};
+ghost use Rattle.mdb_host.specs.Disk.{Disk, Goes, Agree};
+ghost use Rattle.mdb_host.specs.Reads.{ReadsOnly};
 ghost use Rattle.mdb_bytes.specs.LogReading.{IsLog, log_bytes};
 ghost use Rattle.mdb_bytes.specs.Rings.{HasRing, IsRingSize, ring_byte};
-ghost use Rattle.redo_ring.specs.Ring.{HasGroup, StandsAt, damage_at};
-ghost use Rattle.redo_ring.specs.Reading.{IsReader, Finds, Goes, IsNextOf, WalkFinds, WalkEnds};
+ghost use Rattle.redo_ring.specs.Ring.{HasGroup, HasBytesAt, damage_at};
+ghost use Rattle.redo_ring.specs.Reading.{IsReader, FindsGroup, MovesReader, IsNextOf, WalkFinds, WalkEnds};
 
 use crate::pieces::read_ring;
 use mdb_bytes::{GroupBuf, group_len, is_due};
@@ -31,18 +32,20 @@ pub struct RingReader {
 
 impl RingReader {
     /// Reads the next group into `into`, with its gate; false at a closed gate. Where a device
-    /// fails, or where bytes that are not the group that is due stand behind an open gate, the
+    /// fails, or where bytes that are not the group that is due stand after an open gate, the
     /// reader stays where it is, and `into` has anything.
     pub fn next<H: Host>(&mut self, host: &mut H, into: &mut GroupBuf) -> Result<bool, PageFault>
         requires order { IsReader self.old }
         requires ring { H.tells → HasRing self.old.size (H.disk host.old).seen }
-        ensures order { IsReader self.new }
-        ensures calm { H.tells → Runs (H.disk host.old) (H.disk host.new) Agree }
+        // The devices.
+        ensures calm { H.tells → Goes (H.disk host.old) (H.disk host.new) Agree }
         ensures seen { H.tells → Agree (H.disk host.old).seen (H.disk host.new).seen }
+        // The result.
+        ensures order { IsReader self.new }
         ensures group { IfOk result (λ more. more ≡ true
             → HasGroup self.old.name (self.old.number + 1) into.new) }
-        ensures goes { Goes self.old self.new into.new result }
-        ensures finds { H.tells → Finds self.old.size self.old.name
+        ensures goes { MovesReader self.old self.new into.new result }
+        ensures finds { H.tells → FindsGroup self.old.size self.old.name
             (ring_byte self.old.size (H.disk host.old).seen) self.old.start self.old.position
             self.old.number into.new result }
         ensures next { H.tells → (commits : List Commit)
@@ -51,6 +54,7 @@ impl RingReader {
             → self.old.position + log_bytes commits < self.old.start + self.old.size
             → IsNextOf self.old.size self.old.name (ring_byte self.old.size (H.disk host.old).seen)
             self.old.position self.old.number into.new commits result }
+        // The faults.
         ensures later { H.faults host.old ≤ H.faults host.new }
         ensures cause { result ≡ Err PageFault.Failed
             → Rose (H.faults host.old) (H.faults host.new) }
@@ -78,6 +82,50 @@ impl RingReader {
         Ok(true)
     }
 
+    /// Reads the next group as `next` does, from a log volume that may have any size: where it is
+    /// not as long as its ring asks, that is called damaged, and nothing is read. A keeper of a log
+    /// can have no condition on devices, so it asks this.
+    pub fn next_if_there<H: Host>(
+        &mut self,
+        host: &mut H,
+        into: &mut GroupBuf,
+    ) -> Result<bool, PageFault>
+        requires order { IsReader self.old }
+        // The devices.
+        ensures calm { H.tells → Goes (H.disk host.old) (H.disk host.new) Agree }
+        ensures seen { H.tells → Agree (H.disk host.old).seen (H.disk host.new).seen }
+        // The result.
+        ensures order { IsReader self.new }
+        ensures group { IfOk result (λ more. more ≡ true
+            → HasGroup self.old.name (self.old.number + 1) into.new) }
+        ensures goes { MovesReader self.old self.new into.new result }
+        ensures finds { H.tells → HasRing self.old.size (H.disk host.old).seen
+            → FindsGroup self.old.size self.old.name
+            (ring_byte self.old.size (H.disk host.old).seen) self.old.start self.old.position
+            self.old.number into.new result }
+        ensures next { H.tells → HasRing self.old.size (H.disk host.old).seen
+            → (commits : List Commit)
+            → IsLog (ring_byte self.old.size (H.disk host.old).seen) self.old.name self.old.position
+            self.old.number commits
+            → self.old.position + log_bytes commits < self.old.start + self.old.size
+            → IsNextOf self.old.size self.old.name (ring_byte self.old.size (H.disk host.old).seen)
+            self.old.position self.old.number into.new commits result }
+        // The faults.
+        ensures later { H.faults host.old ≤ H.faults host.new }
+        ensures cause { result ≡ Err PageFault.Failed
+            → Rose (H.faults host.old) (H.faults host.new) }
+        ensures say_faults { H.say_faults host.new ≡ H.say_faults host.old }
+    {
+        match host.size(Device::Log) {
+            Some(pages) if pages == 2 + self.size / 8192 => self.next(host, into),
+            _ => Err(PageFault::Damaged(Damage {
+                device: Device::Log,
+                page: 0,
+                rule: Rule::Size,
+            })),
+        }
+    }
+
     // Whether a group of so many bytes can stand at the position.
     fn has_room(&self, bytes: u64) -> bool
         requires order { IsReader self.now }
@@ -103,7 +151,7 @@ impl RingReader {
     }
 }
 
-// Reads a few bytes of the ring behind those that are there.
+// Reads a few bytes of the ring after those that are there.
 fn read_more<H: Host>(
     host: &mut H,
     size: u64,
@@ -115,13 +163,11 @@ fn read_more<H: Host>(
     requires one_call { count ≤ 8192 }
     requires room { length into.old + count ≤ 1048576 }
     requires ring { H.tells → HasRing size (H.disk host.old).seen }
-    ensures calm { H.tells → Runs (H.disk host.old) (H.disk host.new) Agree }
-    ensures seen { H.tells → Agree (H.disk host.old).seen (H.disk host.new).seen }
+    ensures reads { ReadsOnly H.Host host.old host.new }
     ensures added { OnOk result ((bytes : List ℕ) × (length bytes ≡ count)
         × (into.new ≡ into.old ++ bytes)
-        × (H.tells → StandsAt (ring_byte size (H.disk host.old).seen) position bytes)) }
+        × (H.tells → HasBytesAt (ring_byte size (H.disk host.old).seen) position bytes)) }
     ensures cause { HasCause (H.faults host.old) (H.faults host.new) result }
-    ensures say_faults { H.say_faults host.new ≡ H.say_faults host.old }
 {
     let mut piece = [0u8; 8192];
     let (bytes, _) = piece.split_at_mut(count);
@@ -142,13 +188,11 @@ fn read_group<H: Host>(
     requires low { position < 2 ^ 63 }
     requires room { bytes ≤ 1048576 }
     requires ring { H.tells → HasRing size (H.disk host.old).seen }
-    ensures calm { H.tells → Runs (H.disk host.old) (H.disk host.new) Agree }
-    ensures seen { H.tells → Agree (H.disk host.old).seen (H.disk host.new).seen }
+    ensures reads { ReadsOnly H.Host host.old host.new }
     ensures len { OnOk result (length into.new ≡ bytes) }
     ensures bytes { OnOk result (H.tells
-        → StandsAt (ring_byte size (H.disk host.old).seen) position into.new) }
+        → HasBytesAt (ring_byte size (H.disk host.old).seen) position into.new) }
     ensures cause { HasCause (H.faults host.old) (H.faults host.new) result }
-    ensures say_faults { H.say_faults host.new ≡ H.say_faults host.old }
 {
     into.clear();
     let mut done = 0;
@@ -173,8 +217,7 @@ pub(crate) fn walk<H: Host>(
     ensures grown { reader.new.number + reader.old.start ≤ reader.old.number + reader.new.position }
     ensures same { (reader.new.name ≡ reader.old.name) × (reader.new.size ≡ reader.old.size)
         × (reader.new.start ≡ reader.old.start) }
-    ensures calm { H.tells → Runs (H.disk host.old) (H.disk host.new) Agree }
-    ensures seen { H.tells → Agree (H.disk host.old).seen (H.disk host.new).seen }
+    ensures reads { ReadsOnly H.Host host.old host.new }
     ensures finds { H.tells → WalkFinds reader.old.size reader.old.name
         (ring_byte reader.old.size (H.disk host.old).seen) reader.old.start reader.old.number
         reader.new.position reader.new.number result }
@@ -183,15 +226,11 @@ pub(crate) fn walk<H: Host>(
         reader.old.number commits → log_bytes commits < reader.old.size
         → WalkEnds reader.old.start reader.old.number reader.new.position reader.new.number commits
         result }
-    ensures later { H.faults host.old ≤ H.faults host.new }
     ensures cause { result ≡ Err PageFault.Failed → Rose (H.faults host.old) (H.faults host.new) }
-    ensures say_faults { H.say_faults host.new ≡ H.say_faults host.old }
 {
     while reader.position < reader.start + reader.size {
-        match reader.next(host, into) {
-            Ok(true) => {}
-            Ok(false) => return Ok(()),
-            Err(fault) => return Err(fault),
+        if !reader.next(host, into)? {
+            return Ok(());
         }
     }
     Ok(())

@@ -1,4 +1,15 @@
-//! The log as it stands: where it begins and where it ends.
+//! The log as it stands: where it begins and where it ends. What holds of a ring whenever a call
+//! begins (`InOrder`), and of the log on the devices that it speaks of (`IsDue`):
+//!
+//! 1. The ring has 2 to 65,534 pages.
+//! 2. What is not saved by a backup, and what a restart reads, begins no later than the log ends.
+//! 3. The log ends below position 2^63.
+//! 4. The number of the last commit is below the sum of 2^61 and that end: each group has bytes.
+//! 5. From where a restart begins the groups stand one after another with open gates, in the order
+//!    of their numbers, up to the gate of the next group, which is closed.
+//! 6. The groups from there on have the last commit's number as their last.
+//! 7. A group that has room fits with a closed gate after it, less than a turn after the first byte
+//!    that is still needed.
 ghost use Rattle.std.specs.Prelude.{◌≡◌, ℕ, ◌+◌, ◌-◌, ◌≤◌, ◌<◌, ◌^◌, List, [], ◌∷◌, ◌++◌, length, OnOk, OnErr, Err};
 ghost use Rattle.mdb_model.specs.Causes.{Rose, HasCause};
 ghost use Rattle.mdb_model.specs.declared.change.Change.{Change};
@@ -28,6 +39,8 @@ pub struct Ring {
     pub redo_position: u64,
     /// Up to where the log is saved by a backup.
     pub saved_position: u64,
+    /// The number of the last commit that is saved.
+    pub saved_commit: u64,
     /// The gate of the next group.
     pub end_position: u64,
     /// The number of the last group's commit.
@@ -42,13 +55,14 @@ impl Ring {
         self.end_position
     }
 
-    /// Appends a group: its bytes and a closed gate behind it, a sync, its open gate, a sync. After
+    /// Appends a group: its bytes and a closed gate after it, a sync, its open gate, a sync. After
     /// a fault of a device the group stands in the log or not, until the log is read again.
     pub fn append<H: Host>(&mut self, host: &mut H, group: &GroupBuf) -> Result<(), RingFault>
         requires order { InOrder self.old }
         requires low { self.old.end_position + length group.now < 2 ^ 62 }
         requires due { HasGroup self.old.name (self.old.last_commit + 1) group.now }
         requires ring { H.tells → HasRing self.old.size (H.disk host.old).seen }
+        // The result.
         ensures answer { AppendAnswer self.old.size
             (self.old.end_position - self.old.saved_position)
             (self.old.end_position - self.old.redo_position) (length group.now) result }
@@ -60,6 +74,7 @@ impl Ring {
             }) }
         ensures err { OnErr result (self.new ≡ self.old) }
         ensures untouched { Untouched result (host.new ≡ host.old) }
+        // The devices.
         ensures any_moment { H.tells → (changes : List Change)
             → Spells group_format (record {
               name = self.old.name;
@@ -81,6 +96,7 @@ impl Ring {
             (Appended self.old.size self.old.name self.old.end_position self.old.last_commit
             changes)) }
         ensures ring { H.tells → HasRing self.old.size (H.disk host.new).seen }
+        // The faults.
         ensures later { H.faults host.old ≤ H.faults host.new }
         ensures cause { result ≡ Err RingFault.Failed
             → Rose (H.faults host.old) (H.faults host.new) }
@@ -93,6 +109,32 @@ impl Ring {
         self.end_position += group.len() as u64;
         self.last_commit += 1;
         Ok(())
+    }
+
+    /// A restart begins to read at this position from now on, which is the end of a group, not below
+    /// the present one: a savepoint has the commits before it. Nothing is written.
+    pub fn set_redo_from(&mut self, position: u64)
+        requires order { InOrder self.old }
+        requires later { self.old.redo_position ≤ position }
+        requires within { position ≤ self.old.end_position }
+        ensures moved { self.new ≡ record self.old { redo_position = position } }
+        ensures order { InOrder self.new }
+    {
+        self.redo_position = position;
+    }
+
+    /// The log is saved by a backup up to this position from now on, which is the end of the group
+    /// of this commit, not below the present one. Nothing is written.
+    pub fn set_saved(&mut self, commit: u64, position: u64)
+        requires order { InOrder self.old }
+        requires later { self.old.saved_position ≤ position }
+        requires within { position ≤ self.old.end_position }
+        ensures moved { self.new
+            ≡ record self.old { saved_position = position; saved_commit = commit } }
+        ensures order { InOrder self.new }
+    {
+        self.saved_position = position;
+        self.saved_commit = commit;
     }
 
     // Whether a group of so many bytes has room.
@@ -119,7 +161,7 @@ impl Ring {
     }
 }
 
-// Writes a group behind its gate, with a closed gate behind it, and then opens its gate.
+// Writes a group after its gate, with a closed gate after it, and then opens its gate.
 fn append_closed<H: Host>(host: &mut H, size: u64, end: u64, closed: &[u8]) -> Result<(), Failed>
     requires size { IsRingSize size }
     requires low { end < 2 ^ 62 - 1 }

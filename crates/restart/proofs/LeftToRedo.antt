@@ -1,14 +1,18 @@
 -- What is left to redo of a log.
 --     last_or      the last number, with what is left
---     step_rows, step_last      one commit fewer is left
+--     step_rows, step_last, step_behind      one commit fewer is left
 --     first_last      before the first
---     reached      none is left where the last one that is asked for is set
-use Rattle.std.proofs.Common.{◌≡◌, refl, sym, ap, ◌∙◌, ℕ, suc, ◌+◌, ◌-◌, ◌≤◌, List, [], ◌∷◌, length, take, drop, Option, Some, None, arith}
+--     reached, behind_all      none is left where the last one that is asked for is set
+--     SetSoFar, set_first, set_on, part_on      the commits that are set
+--     ready_on      the rows with what is left stay those that are aimed at
+use Rattle.std.proofs.Common.{◌≡◌, refl, sym, ap, ◌∙◌, ℕ, suc, ◌+◌, ◌-◌, ◌≤◌, List, [], ◌∷◌, ◌++◌, append_assoc, length, take, drop, Option, Some, None, arith}
 use Rattle.std.specs.Prelude.{IsSomeAnd}
+use Rattle.std.proofs.lemmas.List.{take-append-drop}
 use Rattle.mdb_model.specs.declared.change.Commit.{Commit}
-use Rattle.mdb_model.specs.Tables.{with_commits}
+use Rattle.mdb_model.specs.Tables.{Tables, with_changes, with_commits}
 use Rattle.mdb_bytes.specs.Held.{Holding, LogLeft}
-use Rattle.restart.specs.Redone.{IsNextRedone, IsUnder, Allows, commits_upto, last_number}
+use Rattle.restart.specs.Redone.{IsNextRedone, IsReadyToRedo, IsPartSet, Allows, commits_upto, commits_behind, last_number}
+use Rattle.restart.proofs.Again.{commits-append}
 
 -- the number of the last commit once those that are left are set
 abbrev pub last_or : Option ℕ → (after : ℕ) → List Commit → Option ℕ
@@ -58,14 +62,57 @@ reached (Some until) (Some last) log at is =
     let none : until - log.after ≡ 0 = omega arith in
     ap (λ n. take n log.commits) none
 
--- at the start nothing is set
-pub under_first : (began now : Holding) (last : ℕ) → began ≡ now → last ≡ now.log.after → IsUnder began now last
-under_first began now last is at =
-    let after : began.log.after ≡ last = ap (λ (h : Holding). h.log.after) is ∙ sym at in
-    let none : last - began.log.after ≡ 0 = omega arith in
-    record {
-      from = omega arith;
-      left = ap (λ n. drop n began.log.commits) none ∙ ap (λ (h : Holding). h.log.commits) is;
-      after = at;
-      resumable = ap (λ n. with_commits (drop n began.log.commits) now.rows) none ∙ ap (λ (h : Holding). with_commits began.log.commits h.rows) (sym is);
-    }
+-- the commits behind those that are asked for stay
+pub step_behind : (until : Option ℕ) (number : ℕ) (old new : Holding) → IsNextRedone (Some number) until old new → commits_behind until new.log ≡ commits_behind until old.log
+step_behind None number old new s = refl
+step_behind (Some until) number old new s =
+    let a : number ≡ old.log.after + 1 = s.2 in
+    let b : new.log.after ≡ number = s.5 in
+    let allowed : number ≤ until = s.4 in
+    let one : until - old.log.after ≡ suc (until - new.log.after) = omega arith in
+    sym (ap (λ n. drop n old.log.commits) one ∙ ap (drop (suc (until - new.log.after))) s.1)
+
+-- where none is asked for, all are behind
+pub behind_all : (until : Option ℕ) (log : LogLeft) → commits_upto until log ≡ [] → commits_behind until log ≡ log.commits
+behind_all None log none = sym none
+behind_all (Some until) log none = ap (λ (front : List Commit). front ++ drop (until - log.after) log.commits) (sym none) ∙ take-append-drop (until - log.after) log.commits
+
+-- these commits of the log are set, and the others are left
+pub record SetSoFar (start now : Holding) : Type 0 where
+  pub done : List Commit
+  pub log : start.log.commits ≡ done ++ now.log.commits
+  pub rows : now.rows ≡ with_commits done start.rows
+
+-- none is set
+pub set_first : (start : Holding) → SetSoFar start start
+set_first start = record { done = []; log = refl; rows = refl }
+
+-- one more is set
+pub set_on : (start old new : Holding) (until : Option ℕ) (number : ℕ) → SetSoFar start old → IsNextRedone (Some number) until old new → SetSoFar start new
+set_on start old new until number was s = record {
+  done = was.done ++ s.0 ∷ [];
+  log = was.log ∙ ap (λ (l : List Commit). was.done ++ l) s.1 ∙ sym (append_assoc was.done (s.0 ∷ []) new.log.commits);
+  rows = s.6 ∙ ap (with_changes s.0.changes) was.rows ∙ sym (commits-append was.done (s.0 ∷ []) start.rows);
+}
+
+-- of the whole log, what is set of the rest of it
+pub part_on : (start old : Holding) (rows : Tables) → SetSoFar start old → IsPartSet old rows → IsPartSet start rows
+part_on start old rows was part = record {
+  done = was.done ++ part.done;
+  left = part.left;
+  made = part.made;
+  log = was.log ∙ ap (λ (l : List Commit). was.done ++ l) part.log ∙ sym (append_assoc was.done part.done part.left);
+  first = part.first;
+  rows_are = part.rows_are ∙ ap (λ (t : Tables). with_changes part.made (with_commits part.done t)) was.rows
+      ∙ ap (with_changes part.made) (sym (commits-append was.done part.done start.rows));
+}
+
+-- the rows with what is left are those that are aimed at
+pub ready_on : (aim aim2 : Tables) (undone undone2 : List Commit) (last last2 : ℕ) (old new : Holding) (until : Option ℕ) (number : ℕ) → IsReadyToRedo aim undone last old → IsNextRedone (Some number) until old new
+    → aim2 ≡ aim → undone2 ≡ new.log.commits → last2 ≡ number → IsReadyToRedo aim2 undone2 last2 new
+ready_on aim aim2 undone undone2 last last2 old new until number ready s same_aim left told = record {
+  at = told ∙ sym s.5;
+  left = left;
+  aimed = ap (λ (l : List Commit). with_commits l new.rows) left ∙ ap (with_commits new.log.commits) s.6
+      ∙ ap (λ (l : List Commit). with_commits l old.rows) (sym (ready.left ∙ s.1)) ∙ ready.aimed ∙ sym same_aim;
+}

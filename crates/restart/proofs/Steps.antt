@@ -1,88 +1,92 @@
 -- One commit of the log, set on the rows.
---     group-due, resumable-on, under-on      a group that is the next one, and what it leaves
---     next-redone      a step that was made
---     upto-none, upto-behind      no commit is left to be set
---     number-small      the number of a group
---     cause_passed      the cause of a fault that is passed on, from an earlier moment on
-use Rattle.std.proofs.Common.{◌≡◌, refl, sym, ap, ◌∙◌, inl, inr, ℕ, zero, suc, ◌+◌, ◌-◌, ◌^◌, ◌<◌, ◌≤◌, true, ◌&&◌, List, [], ◌∷◌, take, drop, Option, Some, None, Err, IsTrue, arith}
-use Rattle.std.specs.Prelude.{IsSomeAnd, IsErrAnd, Result, Ok, nat_lt}
-use Rattle.std.proofs.lemmas.List.{drop-drop}
+--     on_the_way      within a group the rows stand so
+--     part_made      its first changes are set
+--     rose_on, cause_passed      the cause of a fault, from an earlier moment on
+--     on_passed, if_passed      a fault that is passed on owes nothing of an answer
+use Rattle.std.proofs.Common.{◌≡◌, refl, sym, ap, subst, ◌∙◌, inl, inr, ℕ, zero, suc, ◌+◌, ◌-◌, ◌^◌, ◌<◌, ◌≤◌, true, ◌&&◌, List, [], ◌∷◌, ◌++◌, take, Option, Some, None, Err, IsTrue, arith}
+use Rattle.std.specs.Prelude.{IsSomeAnd, IsErrAnd, IfOk, OnOk, Result, Ok, nat_lt}
 use Rattle.std.proofs.lemmas.Bool.{ltb-true}
 use Rattle.mdb_model.specs.Causes.{Rose}
+use Rattle.mdb_model.specs.declared.change.Change.{Change}
 use Rattle.mdb_model.specs.declared.change.Commit.{Commit}
 use Rattle.mdb_model.specs.declared.fault.PageFault.{PageFault}
 use Rattle.mdb_model.specs.Tables.{Tables, with_changes, with_commits}
 use Rattle.mdb_bytes.specs.declared.group.GroupHead.{GroupHead}
 use Rattle.mdb_bytes.specs.Fields.{fields_fit}
-use Rattle.mdb_bytes.specs.GroupHeads.{head_fields}
+use Rattle.mdb_bytes.specs.GroupHeads.{group_head_fields}
 use Rattle.mdb_bytes.specs.Held.{Holding, LogLeft, IsNextGroup}
 use Rattle.mdb_bytes.proofs.Decoding.{and_left, and_right}
-use Rattle.restart.specs.Redone.{IsResumable, IsGroupDue, IsMade, IsUnder, IsNextRedone, Allows, HasRedoCause, commits_upto}
+use Rattle.restart.specs.Redone.{IsFirstOf, IsOnTheWay, IsFirstUndone, IsReadyToRedo, IsMade, IsPartMade, IsPartSet, IsNextRedone, Allows, HasRedoCause, commits_upto}
+use Rattle.restart.proofs.Making.{Making}
 
-module _ (began old mid : Holding) (last : ℕ) (group : List ℕ) (under : IsUnder began old last) (found : IsNextGroup true old.log mid.log group) (same : mid ≡ record old { log = mid.log }) where
-  abbrev pub commit : Commit
-  commit = found.0
+-- within a group the rows are those before it with its first changes
+pub on_the_way : (aim aim2 : Tables) (undone undone2 : List Commit) (before now : Holding) (group left : List ℕ) (next : IsFirstUndone aim undone before.rows group)
+    → Making left before now next.commit.changes → aim2 ≡ aim → undone2 ≡ undone → IsOnTheWay aim2 undone2 now.rows
+on_the_way aim aim2 undone undone2 before now group left next m same_aim same_undone = record {
+  before = before.rows;
+  made = m.made;
+  first = subst (λ (l : List Commit). IsFirstOf m.made l) (sym (same_undone ∙ next.first)) (m.rest, m.whole);
+  aimed = ap (λ (l : List Commit). with_commits l before.rows) same_undone ∙ next.aimed ∙ sym same_aim;
+  rows_are = ap (λ (h : Holding). h.rows) m.rows;
+}
 
-  abbrev pub all : Tables
-  all = with_commits began.log.commits began.rows
+-- the first changes of the group are set
+pub part_made : (before now : Holding) (left : List ℕ) (changes : List Change) → Making left before now changes
+    → (made : List Change) × (rest : List Change) × (changes ≡ made ++ rest) × (now.rows ≡ with_changes made before.rows)
+part_made before now left changes m = (m.made, m.rest, m.whole, ap (λ (h : Holding). h.rows) m.rows)
 
-  -- what was left of the log
-  left_is : drop (last - began.log.after) began.log.commits ≡ commit ∷ mid.log.commits
-  left_is = under.left ∙ found.1
+-- a rise since an earlier moment
+pub rose_on : (a b c : ℕ) → a ≤ b → Rose b c → Rose a c
+rose_on a b c le rose = omega arith
 
+-- the cause of a fault that is passed on, from an earlier moment on
+pub cause_passed : {known known2 little little2 : Type 0} {T U : Type 0} (a b c : ℕ) (fault : PageFault) (answer : Result U PageFault) → IsErrAnd answer (λ passed. passed ≡ fault)
+    → a ≤ b → (known → known2) → (known → little2 → little) → HasRedoCause {T = T} known2 little2 b c (Err fault) → HasRedoCause {T = U} known little a c answer
+cause_passed a b c fault (Ok value) is le knows more cause = absurd is
+cause_passed a b c fault (Err passed) is le knows more cause = record {
+  later = let l = cause.later in omega arith;
+  failed = λ failed. rose_on a b c le (cause.failed (sym is ∙ failed));
+  whole = λ k. elim (cause.whole (knows k)) [ inl failed ↦ inl (is ∙ failed) | inr (room, few) ↦ inr (is ∙ room, more k few) ];
+}
+
+-- where a fault is passed on nothing is owed of an answer
+pub on_passed : {U : Type 0} (X : Type 0) (fault : PageFault) (answer : Result U PageFault) → IsErrAnd answer (λ passed. passed ≡ fault) → OnOk answer X
+on_passed X fault (Ok value) is = absurd is
+on_passed X fault (Err passed) is = tt
+
+pub if_passed : {U : Type 0} (P : U → Type 0) (fault : PageFault) (answer : Result U PageFault) → IsErrAnd answer (λ passed. passed ≡ fault) → IfOk answer P
+if_passed P fault (Ok value) is = absurd is
+if_passed P fault (Err passed) is = tt
+
+module _ (old mid : Holding) (group : List ℕ) (found : IsNextGroup true old.log mid.log group) (same : mid ≡ record old { log = mid.log }) where
   -- reading a group leaves the rows
-  rows_are : mid.rows ≡ old.rows
+  pub rows_are : mid.rows ≡ old.rows
   rows_are = ap (λ (h : Holding). h.rows) same
 
-  -- the rows that are to come, from those before the commit
-  from-old : with_commits mid.log.commits (with_changes commit.changes old.rows) ≡ all
-  from-old = ap (λ cs. with_commits cs old.rows) (sym left_is) ∙ under.resumable
-
-  -- the group may be set, whatever of it is set already
-  pub group-due : IsGroupDue began last mid.rows group
-  group-due = record {
+  -- the group that was read is that of the first commit that is not done
+  abbrev pub first_undone : (aim aim2 : Tables) (undone undone2 : List Commit) (last : ℕ) → IsReadyToRedo aim undone last old → aim2 ≡ aim → undone2 ≡ undone → IsFirstUndone aim2 undone2 mid.rows group
+  first_undone aim aim2 undone undone2 last ready same_aim same_undone = record {
     name = old.log.name;
     number = old.log.after + 1;
-    changes = commit.changes;
+    commit = found.0;
+    rest = mid.log.commits;
     spells = found.4;
-    again = λ now made. ap (λ cs. with_commits cs now) left_is ∙ ap (with_commits mid.log.commits) (made ∙ ap (with_changes commit.changes) rows_are) ∙ from-old;
+    first = same_undone ∙ ready.left ∙ found.1;
+    aimed = ap (λ (l : List Commit). with_commits l mid.rows) same_undone ∙ ap (with_commits undone) rows_are ∙ ready.aimed ∙ sym same_aim;
   }
 
-  module _ (new : Holding) (made : IsMade mid new group) where
-    -- what the commit left
-    made_is : new ≡ record mid { rows = with_changes commit.changes mid.rows }
-    made_is = made old.log.name (old.log.after + 1) commit.changes found.4
-
-    -- its rows
-    pub new_rows : new.rows ≡ with_changes commit.changes old.rows
-    new_rows = ap (λ (h : Holding). h.rows) made_is ∙ ap (with_changes commit.changes) rows_are
-
-    -- its undo files
-    pub new_undo : new.undo ≡ old.undo
-    new_undo = ap (λ (h : Holding). h.undo) made_is ∙ ap (λ (h : Holding). h.undo) same
-
-    -- its log
-    pub new_log : new.log ≡ mid.log
-    new_log = ap (λ (h : Holding). h.log) made_is
-
-    -- what is left of the log
-    left_now : drop ((old.log.after + 1) - began.log.after) began.log.commits ≡ mid.log.commits
-    left_now =
-        let at : (old.log.after + 1) - began.log.after ≡ (last - began.log.after) + 1 = (let a = under.from in let b = under.after in omega arith) in
-        ap (λ n. drop n began.log.commits) at ∙ sym (drop-drop 1 (last - began.log.after) began.log.commits) ∙ ap (drop 1) left_is
-
-    -- so it may go on
-    pub resumable-on : IsResumable began (old.log.after + 1) new.rows
-    resumable-on = ap (λ cs. with_commits cs new.rows) left_now ∙ ap (with_commits mid.log.commits) new_rows ∙ from-old
-
-    -- and none of the next commit is set
-    pub under-on : IsUnder began new (old.log.after + 1)
-    under-on = record {
-      from = let a = under.from in let b = under.after in omega arith;
-      left = left_now ∙ ap (λ (log : LogLeft). log.commits) (sym new_log);
-      after = sym (ap (λ (log : LogLeft). log.after) new_log ∙ found.3);
-      resumable = resumable-on;
-    }
+  -- of the log no commit is set, and of the first one the first changes
+  pub part_first : (rows : Tables) → IsPartMade mid.rows rows group → IsPartSet old rows
+  part_first rows part =
+      let p = part old.log.name (old.log.after + 1) found.0.changes found.4 in
+      record {
+        done = [];
+        left = old.log.commits;
+        made = p.0;
+        log = refl;
+        first = subst (λ (l : List Commit). IsFirstOf p.0 l) (sym found.1) (p.1, p.2);
+        rows_are = p.3 ∙ ap (with_changes p.0) rows_are;
+      }
 
 -- a step that was made
 pub next-redone : (old mid new : Holding) (group : List ℕ) (until : Option ℕ) (number : ℕ) (found : IsNextGroup true old.log mid.log group) → mid ≡ record old { log = mid.log } → IsMade mid new group
@@ -100,6 +104,10 @@ next-redone old mid new group until number found same made is small allowed =
       ap (λ (h : Holding). h.undo) done ∙ ap (λ (h : Holding). h.undo) same,
     )
 
+-- its log
+pub made_log : (old mid new : Holding) (group : List ℕ) (found : IsNextGroup true old.log mid.log group) → IsMade mid new group → new.log ≡ mid.log
+made_log old mid new group found made = ap (λ (h : Holding). h.log) (made old.log.name (old.log.after + 1) found.0.changes found.4)
+
 -- none of none
 take-none : (n : ℕ) → take n (let none : List Commit = [] in none) ≡ []
 take-none zero = refl
@@ -116,7 +124,7 @@ upto-behind None log number is behind = absurd behind
 upto-behind (Some until) log number is behind = let none : until - log.after ≡ 0 = omega arith in ap (λ n. take n log.commits) none
 
 -- the number of a group
-pub number-small : (head : GroupHead) → IsTrue (fields_fit (head_fields head)) → head.number < 2 ^ 62
+pub number-small : (head : GroupHead) → IsTrue (fields_fit (group_head_fields head)) → head.number < 2 ^ 62
 number-small head fits =
     let a = nat_lt head.length (2 ^ 32) in
     let b = nat_lt head.name.birth (2 ^ 62) in
@@ -124,17 +132,3 @@ number-small head fits =
     let d = nat_lt head.number (2 ^ 62) in
     let e = nat_lt head.changes (2 ^ 32) && true in
     ltb-true head.number (2 ^ 62) (and_left d e (and_right c (d && e) (and_right b (c && (d && e)) (and_right a (b && (c && (d && e))) fits))))
-
--- a rise since an earlier moment
-pub rose_on : (a b c : ℕ) → a ≤ b → Rose b c → Rose a c
-rose_on a b c le rose = omega arith
-
--- the cause of a fault that is passed on, from an earlier moment on
-pub cause_passed : {known known2 little little2 : Type 0} {T U : Type 0} (a b c : ℕ) (fault : PageFault) (answer : Result U PageFault) → IsErrAnd answer (λ passed. passed ≡ fault)
-    → a ≤ b → (known → known2) → (little2 → little) → HasRedoCause {T = T} known2 little2 b c (Err fault) → HasRedoCause {T = U} known little a c answer
-cause_passed a b c fault (Ok value) is le knows more cause = absurd is
-cause_passed a b c fault (Err passed) is le knows more cause = record {
-  later = let l = cause.later in omega arith;
-  failed = λ failed. rose_on a b c le (cause.failed (sym is ∙ failed));
-  whole = λ k. elim (cause.whole (knows k)) [ inl failed ↦ inl (is ∙ failed) | inr (room, few) ↦ inr (is ∙ room, more few) ];
-}

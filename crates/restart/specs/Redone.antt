@@ -1,11 +1,14 @@
 -- A restart: the rows that the commits of the log leave.
---     IsResumable      the rows, with the commits that are left, are those with all commits
---     commits_upto, last_number      the commits of a log up to a number, and the number of their
---         last one
---     IsGroupDue, IsMade      a group may be set on rows, whatever of it is set; it was
+--     IsFirstOf, IsOnTheWay      of the first commit that is not done the first changes are set
+--     IsFirstUndone, IsSetWhole      a group is that of the first commit that is not done; that
+-- commit is set
+--     commits_upto, commits_behind, last_number      the commits of a log up to a number, those
+-- behind it, and the number of the last one of the first
+--     IsMade, IsPartMade, IsPartSet      a group is set on rows; its first changes are; of a log
+-- the first commits, and of the next one the first changes
+--     IsReadyToRedo      the rows with all commits of the log are what the devices stand for
 --     HasRedoCause      when a restart may fail
-use Rattle.std.specs.Prelude.{◌≡◌, ◌⊎◌, ℕ, ◌+◌, ◌-◌, ◌^◌, ◌<◌, ◌≤◌, [], ◌∷◌}
-use Rattle.std.specs.Prelude.{List, length, take, drop, Option, Some, None, Result, IfErr}
+use Rattle.std.specs.Prelude.{◌≡◌, ◌⊎◌, ℕ, ◌+◌, ◌-◌, ◌^◌, ◌<◌, ◌≤◌, List, [], ◌∷◌, ◌++◌, length, take, drop, Option, Some, None, Result, IfErr}
 use Rattle.mdb_model.specs.Causes.{Rose}
 use Rattle.mdb_model.specs.declared.change.Change.{Change}
 use Rattle.mdb_model.specs.declared.change.Commit.{Commit}
@@ -17,33 +20,66 @@ use Rattle.mdb_bytes.specs.Fields.{Spells}
 use Rattle.mdb_bytes.specs.Groups.{group_format}
 use Rattle.mdb_bytes.specs.Held.{Holding, LogLeft, no_room}
 
--- the rows with the commits after this number are what all commits make of the rows at first. Of
--- the first of them any part may be set already
-abbrev pub IsResumable : Holding → (last : ℕ) → Tables → Type 0
-IsResumable began last rows =
-    with_commits (drop (last - began.log.after) began.log.commits) rows
-    ≡ with_commits began.log.commits began.rows
+-- these are the first changes of the first commit, or none
+abbrev pub IsFirstOf : List Change → List Commit → Type 0
+IsFirstOf made [] = made ≡ []
+IsFirstOf made (commit ∷ commits) = (rest : List Change) × (commit.changes ≡ made ++ rest)
+
+-- The rows are some rows with the first changes of the first commit that is not done. Those rows
+-- with all commits that are
+-- not done are the ones that are aimed at.
+pub record IsOnTheWay (aim : Tables) (undone : List Commit) (rows : Tables) : Type 0 where
+  pub before : Tables
+  pub made : List Change
+  pub first : IsFirstOf made undone
+  pub aimed : with_commits undone before ≡ aim
+  pub rows_are : rows ≡ with_changes made before
+
+-- the bytes are the group of the first commit that is not done, and none of it is set
+pub record IsFirstUndone (aim : Tables) (undone : List Commit) (rows : Tables) (group : List ℕ) :
+    Type 0 where
+  pub name : Name
+  pub number : ℕ
+  pub commit : Commit
+  pub rest : List Commit
+  pub spells : Spells group_format (record
+      { name = name; number = number; changes = commit.changes }) group
+  pub first : undone ≡ commit ∷ rest
+  pub aimed : with_commits undone rows ≡ aim
+
+-- the first commit that is not done is set, it has this number, the one behind the last number, and
+-- those behind it are
+-- still to be read
+pub record IsSetWhole (aim : Tables) (undone : List Commit) (last : ℕ) (held : Holding)
+    (number : ℕ) : Type 0 where
+  pub commit : Commit
+  pub first : undone ≡ commit ∷ held.log.commits
+  pub read : held.log.after ≡ number
+  pub next : number ≡ last + 1
+  pub aimed : with_commits held.log.commits held.rows ≡ aim
+
+-- none of the commits that are not done is read, and the rows with them are the ones that are aimed
+-- at
+pub record IsReadyToRedo (aim : Tables) (undone : List Commit) (last : ℕ) (held : Holding) : Type 0
+  where
+    pub at : last ≡ held.log.after
+    pub left : undone ≡ held.log.commits
+    pub aimed : with_commits undone held.rows ≡ aim
 
 -- the commits of a log up to a number, or all
 abbrev pub commits_upto : Option ℕ → LogLeft → List Commit
 commits_upto None log = log.commits
 commits_upto (Some number) log = take (number - log.after) log.commits
 
--- the number of the last of these commits, of which the first comes after this number
+-- the commits behind them
+abbrev pub commits_behind : Option ℕ → LogLeft → List Commit
+commits_behind None log = []
+commits_behind (Some number) log = drop (number - log.after) log.commits
+
+-- the number of the last of these commits, of which the first comes behind this number
 abbrev pub last_number : (after : ℕ) → List Commit → Option ℕ
 last_number after [] = None
 last_number after (commit ∷ commits) = Some (after + length (commit ∷ commits))
-
--- the bytes are the group of changes that may be set: rows on which they make the same are
--- resumable
-pub record IsGroupDue (began : Holding) (last : ℕ) (rows : Tables) (group : List ℕ) : Type 0 where
-  pub name : Name
-  pub number : ℕ
-  pub changes : List Change
-  pub spells : Spells group_format (record { name = name; number = number; changes = changes })
-      group
-  pub again : (now : Tables) → with_changes changes now ≡ with_changes changes rows
-      → IsResumable began last now
 
 -- the changes of the group are set, and all else is as it was
 abbrev pub IsMade : (old new : Holding) → (group : List ℕ) → Type 0
@@ -52,25 +88,34 @@ IsMade old new group =
     → Spells group_format (record { name = name; number = number; changes = changes }) group
     → new ≡ record old { rows = with_changes changes old.rows }
 
+-- the first changes of the group are set
+abbrev pub IsPartMade : (old new : Tables) → (group : List ℕ) → Type 0
+IsPartMade old new group =
+    (name : Name) (number : ℕ) (changes : List Change)
+    → Spells group_format (record { name = name; number = number; changes = changes }) group
+    → (made : List Change) × (rest : List Change) × (changes ≡ made ++ rest)
+    × (new ≡ with_changes made old)
+
+-- the first commits of the log are set, and of the next one the first changes
+pub record IsPartSet (start : Holding) (rows : Tables) : Type 0 where
+  pub done : List Commit
+  pub left : List Commit
+  pub made : List Change
+  pub log : start.log.commits ≡ done ++ left
+  pub first : IsFirstOf made left
+  pub rows_are : rows ≡ with_changes made (with_commits done start.rows)
+
 -- A device is called failed only where the count of faults rose. Where the bytes are known and keep
--- the rules, nothing is called damaged but want of room, and that only where a savepoint leaves too
--- little.
+-- the rules, nothing is
+-- called damaged but want of room, and that only where a savepoint leaves too little.
 pub record HasRedoCause {T : Type 0} (known little : Type 0) (before now : ℕ)
     (result : Result T PageFault) : Type 0 where
   pub later : before ≤ now
   pub failed : IfErr result (λ fault. fault ≡ Failed → Rose before now)
-  pub whole : known
-      → IfErr result (λ fault. (fault ≡ Failed) ⊎ ((fault ≡ Damaged no_room) × little))
+  pub whole : known → IfErr result (λ fault. (fault ≡ Failed)
+      ⊎ ((fault ≡ Damaged no_room) × little))
 
--- What the rows are and what is left of the log: the commits after the last one that was reported,
--- none of them set.
-pub record IsUnder (began now : Holding) (last : ℕ) : Type 0 where
-  pub from : began.log.after ≤ last
-  pub left : drop (last - began.log.after) began.log.commits ≡ now.log.commits
-  pub after : last ≡ now.log.after
-  pub resumable : IsResumable began last now.rows
-
--- no commit after this number is asked for
+-- no commit behind this number is asked for
 abbrev pub Allows : Option ℕ → ℕ → Type 0
 Allows None number = Unit {0}
 Allows (Some until) number = number ≤ until
@@ -86,5 +131,10 @@ IsNextRedone (Some number) until old new =
     × (new.log.after ≡ number)
     × (new.rows ≡ with_changes commit.changes old.rows)
     × (new.undo ≡ old.undo)
-IsNextRedone None until old new =
-    (new.rows ≡ old.rows) × (new.undo ≡ old.undo) × (commits_upto until old.log ≡ [])
+IsNextRedone None until old new = (new.rows ≡ old.rows) × (new.undo ≡ old.undo)
+    × (commits_upto until old.log ≡ [])
+
+-- what is not done once a call has set the commit of this number, or none
+abbrev pub IsNextDone : Option ℕ → (old new : List Commit) → (log : LogLeft) → Type 0
+IsNextDone (Some number) old new log = new ≡ log.commits
+IsNextDone None old new log = new ≡ old

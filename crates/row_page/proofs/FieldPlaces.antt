@@ -4,6 +4,7 @@ use Rattle.std.proofs.Common.{◌≡◌, ℕ, ◌+◌, ◌-◌, ◌^◌, ◌<◌
 use Rattle.std.proofs.lemmas.List.{drop-drop, drop_at, length-replicate}
 use Rattle.std.proofs.lemmas.Bool.{eqb-true, leb-true, cases_Bool}
 use Rattle.std.specs.Prelude.{nat_eq, nat_le}
+use Rattle.std.proofs.lemmas.Option.{same_Some}
 use Rattle.byteorder.specs.Endian.{big_number}
 use Rattle.byteorder.specs.Numbers.{big_number-reads_back}
 use Rattle.mdb_bytes.specs.Fields.{Field, Byte, Two, Four, Eight, Zeros, Text, field_bytes, spelled, number_at}
@@ -18,10 +19,6 @@ length-field (Eight n) = refl
 length-field (Zeros n) = length-replicate n 0
 length-field (Text bytes) = refl
 
--- the same field
-some_is : (f g : Field) → Some f ≡ Some g → f ≡ g
-some_is f g e = cc
-
 -- what stands from the place of a field on begins with its bytes
 pub stands : (fs : List Field) (more : List ℕ) (at : ℕ) (f : Field) → field_at at fs ≡ Some f → (rest : List ℕ) × (drop at (spelled fs ++ more) ≡ field_bytes f ++ rest)
 unfolding spelled
@@ -32,7 +29,7 @@ stands (g ∷ fs) more at f e =
       | inl here ↦
           let zero_is : at ≡ 0 = eqb-true at 0 here in
           let chosen : Some g ≡ Some f = rw here at e in
-          let same : g ≡ f = some_is g f chosen in
+          let same : g ≡ f = same_Some g f chosen in
           (spelled fs ++ more, ap (drop at) assoc ∙ rw (zero_is, same) refl)
       | inr past ↦
           let e1 : cond (nat_le (field_len g) at) (field_at (at - field_len g) fs) None ≡ Some f = rw past at e in

@@ -4,13 +4,13 @@
 use Rattle.std.proofs.Common.{◌≡◌, ℕ, ◌+◌, ◌-◌, ◌*◌, ◌^◌, ◌<◌, ◌≤◌, List, ◌++◌, length, take, drop, refl, sym, ap, ◌∙◌, arith, length-append, append_assoc}
 use Rattle.std.specs.Prelude.{replicate}
 use Rattle.std.proofs.lemmas.List.{drop_at, take_at, length-drop, length-take, take-replicate, drop-replicate}
-use Rattle.row_page.specs.Page.{run, slots, body_of, used, HasCut, HasCells}
+use Rattle.row_page.specs.Page.{joined_cells, slots, page_body, used, HasCut, HasCells}
 use Rattle.row_page.proofs.Cells.{run-append, slots-append, length-slots}
 use Rattle.row_page.proofs.Bodies.{length-zeros, run_split, slots_split}
 
 -- the parts of a body that is cut stand one after the other
 pub cut_fits : (body : List ℕ) (cs : List (List ℕ)) (count i place size : ℕ) → HasCut body cs count i place size
-    → (place ≤ size) × (length (run (drop i cs)) ≡ size - place) × (size + 2 * count ≤ length body) × (i ≤ count) × (length (drop i cs) ≡ count - i) × (64 + length body < 2 ^ 16)
+    → (place ≤ size) × (length (joined_cells (drop i cs)) ≡ size - place) × (size + 2 * count ≤ length body) × (i ≤ count) × (length (drop i cs) ≡ count - i) × (64 + length body < 2 ^ 16)
 cut_fits body cs count i place size r =
     let e = ap length (run_split i cs) in
     let a = r.counted in
@@ -18,7 +18,7 @@ cut_fits body cs count i place size r =
     let c = r.placed in
     let d = r.sized in
     let f = r.fits in
-    let l = length-append (run (take i cs)) (run (drop i cs)) in
+    let l = length-append (joined_cells (take i cs)) (joined_cells (drop i cs)) in
     (omega arith, omega arith, omega arith, omega arith, omega (arith, length-drop i cs), r.short)
 
 -- what is free of a body
@@ -27,11 +27,11 @@ zeros_left room cs = replicate (room - used cs) 0
 
 -- a body that is cut, part by part
 pub cut_shape : (body : List ℕ) (cs : List (List ℕ)) (count i place size : ℕ) → HasCut body cs count i place size
-    → body ≡ run (take i cs) ++ ((run (drop i cs) ++ (replicate (length body - used cs) 0 ++ slots (64 + place) (drop i cs))) ++ slots 64 (take i cs))
-unfolding body_of
+    → body ≡ joined_cells (take i cs) ++ ((joined_cells (drop i cs) ++ (replicate (length body - used cs) 0 ++ slots (64 + place) (drop i cs))) ++ slots 64 (take i cs))
+unfolding page_body
 cut_shape body cs count i place size r =
-    let a = run (take i cs) in
-    let b = run (drop i cs) in
+    let a = joined_cells (take i cs) in
+    let b = joined_cells (drop i cs) in
     let z : List ℕ = replicate (length body - used cs) 0 in
     let h = slots (64 + place) (drop i cs) in
     let l = slots 64 (take i cs) in
@@ -44,11 +44,11 @@ cut_shape body cs count i place size r =
 pub split_parts : (body keep rest middle low cells moved : List ℕ) (cs : List (List ℕ)) (count i place size : ℕ) → HasCut body cs count i place size
     → keep ≡ take place body → rest ≡ drop place body → middle ≡ take (length body - place - 2 * i) rest → low ≡ drop (length body - place - 2 * i) rest
     → cells ≡ take (size - place) middle → moved ≡ drop (length body - place - 2 * i - 2 * (count - i)) middle
-    → (keep ≡ run (take i cs)) × (low ≡ slots 64 (take i cs)) × (cells ≡ run (drop i cs)) × (moved ≡ slots (64 + place) (drop i cs)) × (length middle ≡ length body - place - 2 * i)
+    → (keep ≡ joined_cells (take i cs)) × (low ≡ slots 64 (take i cs)) × (cells ≡ joined_cells (drop i cs)) × (moved ≡ slots (64 + place) (drop i cs)) × (length middle ≡ length body - place - 2 * i)
 split_parts body keep rest middle low cells moved cs count i place size r ek er em el ec ev =
     let f = cut_fits body cs count i place size r in
-    let a = run (take i cs) in
-    let b = run (drop i cs) in
+    let a = joined_cells (take i cs) in
+    let b = joined_cells (drop i cs) in
     let k = length body - used cs in
     let z : List ℕ = replicate k 0 in
     let h = slots (64 + place) (drop i cs) in
@@ -74,8 +74,8 @@ split_parts body keep rest middle low cells moved cs count i place size r ek er 
 
 -- what stays is the body of the first cells
 pub kept_cells : (body keep low filled : List ℕ) (cs : List (List ℕ)) (count i place size : ℕ) → HasCut body cs count i place size
-    → keep ≡ run (take i cs) → low ≡ slots 64 (take i cs) → filled ≡ replicate (length body - place - 2 * i) 0 → keep ++ (filled ++ low) ≡ body_of (length body) (take i cs)
-unfolding body_of
+    → keep ≡ joined_cells (take i cs) → low ≡ slots 64 (take i cs) → filled ≡ replicate (length body - place - 2 * i) 0 → keep ++ (filled ++ low) ≡ page_body (length body) (take i cs)
+unfolding page_body
 kept_cells body keep low filled cs count i place size r k l f =
     let p = r.placed in
     let w = r.within in
@@ -84,9 +84,9 @@ kept_cells body keep low filled cs count i place size r k l f =
 
 -- what was moved is the body of the last cells
 pub moved_cells : (body other cells front back : List ℕ) (cs : List (List ℕ)) (count i place size : ℕ) → HasCut body cs count i place size
-    → other ≡ replicate (length body) 0 → cells ≡ run (drop i cs) → front ≡ drop (size - place) (take (length body - 2 * (count - i)) other) → back ≡ slots 64 (drop i cs)
-    → (cells ++ front) ++ back ≡ body_of (length body) (drop i cs)
-unfolding body_of
+    → other ≡ replicate (length body) 0 → cells ≡ joined_cells (drop i cs) → front ≡ drop (size - place) (take (length body - 2 * (count - i)) other) → back ≡ slots 64 (drop i cs)
+    → (cells ++ front) ++ back ≡ page_body (length body) (drop i cs)
+unfolding page_body
 moved_cells body other cells front back cs count i place size r o c f b =
     let g = cut_fits body cs count i place size r in
     let q = r.counted in
@@ -101,8 +101,8 @@ moved_cells body other cells front back cs count i place size r o c f b =
 -- a body of cells in three parts
 pub cells_parts : (body rest middle low : List ℕ) (cs : List (List ℕ)) (count size : ℕ) → HasCells body cs count size
     → rest ≡ drop size body → middle ≡ take (length body - size - 2 * count) rest → low ≡ drop (length body - size - 2 * count) rest
-    → (take size body ≡ run cs) × (middle ≡ replicate (length body - used cs) 0) × (low ≡ slots 64 cs)
-unfolding body_of
+    → (take size body ≡ joined_cells cs) × (middle ≡ replicate (length body - used cs) 0) × (low ≡ slots 64 cs)
+unfolding page_body
 cells_parts body rest middle low cs count size r er em el =
     let a = r.counted in
     let b = r.sized in
@@ -111,15 +111,15 @@ cells_parts body rest middle low cs count size r er em el =
     let z : List ℕ = replicate k 0 in
     let n = length body - size - 2 * count in
     let l : length z ≡ n = omega (arith, length-zeros k) in
-    let rest_is : rest ≡ z ++ slots 64 cs = er ∙ ap (drop size) r.bytes ∙ drop_at (run cs) (z ++ slots 64 cs) size (sym b) in (
-      ap (take size) r.bytes ∙ take_at (run cs) (z ++ slots 64 cs) size (sym b),
+    let rest_is : rest ≡ z ++ slots 64 cs = er ∙ ap (drop size) r.bytes ∙ drop_at (joined_cells cs) (z ++ slots 64 cs) size (sym b) in (
+      ap (take size) r.bytes ∙ take_at (joined_cells cs) (z ++ slots 64 cs) size (sym b),
       em ∙ ap (take n) rest_is ∙ take_at z (slots 64 cs) n l,
       el ∙ ap (drop n) rest_is ∙ drop_at z (slots 64 cs) n l,
     )
 
 -- the cells at the front of a body, and the slots at its end
-pub cells_ends : (body : List ℕ) (cs : List (List ℕ)) (count size : ℕ) → HasCells body cs count size → (take size body ≡ run cs) × (drop (length body - 2 * count) body ≡ slots 64 cs)
-unfolding body_of
+pub cells_ends : (body : List ℕ) (cs : List (List ℕ)) (count size : ℕ) → HasCells body cs count size → (take size body ≡ joined_cells cs) × (drop (length body - 2 * count) body ≡ slots 64 cs)
+unfolding page_body
 cells_ends body cs count size r =
     let a = r.counted in
     let b = r.sized in
@@ -127,17 +127,17 @@ cells_ends body cs count size r =
     let k = length body - used cs in
     let z : List ℕ = replicate k 0 in
     let n = length body - 2 * count in
-    let l : length (run cs ++ z) ≡ n = omega (arith, length-append (run cs) z, length-zeros k) in (
-      ap (take size) r.bytes ∙ take_at (run cs) (z ++ slots 64 cs) size (sym b),
-      ap (drop n) (r.bytes ∙ sym (append_assoc (run cs) z (slots 64 cs))) ∙ drop_at (run cs ++ z) (slots 64 cs) n l,
+    let l : length (joined_cells cs ++ z) ≡ n = omega (arith, length-append (joined_cells cs) z, length-zeros k) in (
+      ap (take size) r.bytes ∙ take_at (joined_cells cs) (z ++ slots 64 cs) size (sym b),
+      ap (drop n) (r.bytes ∙ sym (append_assoc (joined_cells cs) z (slots 64 cs))) ∙ drop_at (joined_cells cs ++ z) (slots 64 cs) n l,
     )
 
 -- the parts after cells were put after others
-pub appended : (body first middle low cells front back : List ℕ) (cs ds : List (List ℕ)) (count size other_count other_size : ℕ) → HasCells body cs count size → other_count ≡ length ds → other_size ≡ length (run ds)
-    → used cs + used ds ≤ length body → first ≡ run cs → middle ≡ replicate (length body - used cs) 0 → low ≡ slots 64 cs
-    → cells ≡ run ds → front ≡ drop other_size (take (length body - size - 2 * count - 2 * other_count) middle) → back ≡ slots (64 + size) ds
-    → first ++ (((cells ++ front) ++ back) ++ low) ≡ body_of (length body) (cs ++ ds)
-unfolding body_of
+pub appended : (body first middle low cells front back : List ℕ) (cs ds : List (List ℕ)) (count size other_count other_size : ℕ) → HasCells body cs count size → other_count ≡ length ds → other_size ≡ length (joined_cells ds)
+    → used cs + used ds ≤ length body → first ≡ joined_cells cs → middle ≡ replicate (length body - used cs) 0 → low ≡ slots 64 cs
+    → cells ≡ joined_cells ds → front ≡ drop other_size (take (length body - size - 2 * count - 2 * other_count) middle) → back ≡ slots (64 + size) ds
+    → first ++ (((cells ++ front) ++ back) ++ low) ≡ page_body (length body) (cs ++ ds)
+unfolding page_body
 appended body first middle low cells front back cs ds count size other_count other_size r oc os fits f m l c fr b =
     let a = r.counted in
     let s = r.sized in
@@ -146,9 +146,9 @@ appended body first middle low cells front back cs ds count size other_count oth
     let z : front ≡ replicate (n - other_size) 0 =
     fr ∙ ap (λ (t : List ℕ). drop other_size (take n t)) m ∙ ap (drop other_size) (take-replicate n k 0 (omega arith)) ∙ drop-replicate other_size n 0 in
     let run_is = run-append cs ds in
-    let u : used (cs ++ ds) ≡ used cs + used ds = (let e = ap length run_is in omega (arith, length-append (run cs) (run ds), length-append cs ds)) in
+    let u : used (cs ++ ds) ≡ used cs + used ds = (let e = ap length run_is in omega (arith, length-append (joined_cells cs) (joined_cells ds), length-append cs ds)) in
     let left : n - other_size ≡ length body - used (cs ++ ds) = omega arith in
-    let st : 64 + size ≡ 64 + length (run cs) = ap (λ (t : ℕ). 64 + t) s in
+    let st : 64 + size ≡ 64 + length (joined_cells cs) = ap (λ (t : ℕ). 64 + t) s in
     let slots_is : back ++ low ≡ slots 64 (cs ++ ds) = rw (b, l, st) (sym (slots-append 64 cs ds)) in
     ap (λ (t : List ℕ). first ++ t) (append_assoc (cells ++ front) back low ∙ append_assoc cells front (back ++ low))
     ∙ sym (append_assoc first cells (front ++ (back ++ low)))

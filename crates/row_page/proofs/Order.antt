@@ -9,7 +9,7 @@ use Rattle.std.specs.declared.cmp.Ordering.TheVariants.{Less, Equal, Greater}
 use Rattle.std.proofs.lemmas.Cmp.{nat_list_cmp_total}
 use Rattle.std.proofs.lemmas.Bool.{cases_lt, cases_order}
 use Rattle.std.proofs.lemmas.List.Edits.{get_or-insert_below, get_or-insert_at, get_or-insert_above, get_or-remove_below, get_or-remove_above, length-insert, length-remove}
-use Rattle.row_page.specs.Entries.{Entry, Ascend, AllKept, KeepsEntry, key_at, by_bytes, no_entry}
+use Rattle.row_page.specs.Entries.{PageEntry, Ascend, AllKept, KeepsEntry, key_at, by_bytes, empty_entry}
 
 -- what is lower the one way is greater the other way
 pub flip_less : (x y : List ℕ) → by_bytes x y ≡ Less → by_bytes y x ≡ Greater
@@ -24,7 +24,7 @@ pub same_key : (x y : List ℕ) → by_bytes x y ≡ Equal → x ≡ y
 same_key x y h = slice_cmp-IsAntisymmetric nat_cmp-IsAntisymmetric x y h
 
 -- where an entry is lower than a key, those before it are
-pub less_upto : (es : List Entry) (m : ℕ) (key : List ℕ) → Ascend es → m < length es → by_bytes (key_at es m) key ≡ Less
+pub less_upto : (es : List PageEntry) (m : ℕ) (key : List ℕ) → Ascend es → m < length es → by_bytes (key_at es m) key ≡ Less
     → (k : ℕ) → k < m + 1 → by_bytes (key_at es k) key ≡ Less
 less_upto es m key up lt h k below =
     elim (cases_lt k m) [
@@ -33,7 +33,7 @@ less_upto es m key up lt h k below =
     ]
 
 -- where an entry is greater than a key, those after it are
-pub greater_from : (es : List Entry) (m : ℕ) (key : List ℕ) → Ascend es → m < length es → by_bytes (key_at es m) key ≡ Greater
+pub greater_from : (es : List PageEntry) (m : ℕ) (key : List ℕ) → Ascend es → m < length es → by_bytes (key_at es m) key ≡ Greater
     → (k : ℕ) → m ≤ k → k < length es → by_bytes (key_at es k) key ≡ Greater
 greater_from es m key up lt h k from within =
     elim (cases_lt m k) [
@@ -42,24 +42,24 @@ greater_from es m key up lt h k from within =
     ]
 
 -- where an entry of the new list stands in the old one
-abbrev pub FromInsert : List Entry → ℕ → Entry → ℕ → Type 0
+abbrev pub FromInsert : List PageEntry → ℕ → PageEntry → ℕ → Type 0
 FromInsert es i e k =
-    ((k < i) × (get_or (insert es i e) k no_entry ≡ get_or es k no_entry))
-    ⊎ (((k ≡ i) × (get_or (insert es i e) k no_entry ≡ e)) ⊎ ((j : ℕ) × (i ≤ j) × (k ≡ j + 1) × (get_or (insert es i e) k no_entry ≡ get_or es j no_entry)))
+    ((k < i) × (get_or (insert es i e) k empty_entry ≡ get_or es k empty_entry))
+    ⊎ (((k ≡ i) × (get_or (insert es i e) k empty_entry ≡ e)) ⊎ ((j : ℕ) × (i ≤ j) × (k ≡ j + 1) × (get_or (insert es i e) k empty_entry ≡ get_or es j empty_entry)))
 
 -- each entry of the new list stands in the old one, or is the new one
-pub from_insert : (es : List Entry) (i : ℕ) (e : Entry) (k : ℕ) → i ≤ length es → FromInsert es i e k
+pub from_insert : (es : List PageEntry) (i : ℕ) (e : PageEntry) (k : ℕ) → i ≤ length es → FromInsert es i e k
 from_insert es i e k le =
     elim (cases_order k i) [
-      | inl same ↦ inr (inl (same, ap (λ (n : ℕ). get_or (insert es i e) n no_entry) same ∙ get_or-insert_at es i e no_entry le))
-      | inr (inl below) ↦ inl (below, get_or-insert_below es i e no_entry k below le)
+      | inl same ↦ inr (inl (same, ap (λ (n : ℕ). get_or (insert es i e) n empty_entry) same ∙ get_or-insert_at es i e empty_entry le))
+      | inr (inl below) ↦ inl (below, get_or-insert_below es i e empty_entry k below le)
       | inr (inr above) ↦
           let j : k ≡ (k - 1) + 1 = omega arith in
-          inr (inr (k - 1, omega arith, j, ap (λ (n : ℕ). get_or (insert es i e) n no_entry) j ∙ get_or-insert_above es i e no_entry (k - 1) (omega arith) le))
+          inr (inr (k - 1, omega arith, j, ap (λ (n : ℕ). get_or (insert es i e) n empty_entry) j ∙ get_or-insert_above es i e empty_entry (k - 1) (omega arith) le))
     ]
 
 -- the limits of each entry with one more
-pub kept-insert : (leaf : _) (es : List Entry) (i : ℕ) (e : Entry) → i ≤ length es → AllKept leaf es → KeepsEntry leaf e → AllKept leaf (insert es i e)
+pub kept-insert : (leaf : _) (es : List PageEntry) (i : ℕ) (e : PageEntry) → i ≤ length es → AllKept leaf es → KeepsEntry leaf e → AllKept leaf (insert es i e)
 kept-insert leaf es i e le all one k lt =
     let n = length-insert es i e le in
     elim (from_insert es i e k le) [
@@ -69,15 +69,15 @@ kept-insert leaf es i e le all one k lt =
     ]
 
 -- a key belongs to a place
-abbrev pub Between : List Entry → ℕ → List ℕ → Type 0
+abbrev pub Between : List PageEntry → ℕ → List ℕ → Type 0
 Between es i key = ((k : ℕ) → k < i → by_bytes (key_at es k) key ≡ Less) × ((k : ℕ) → i ≤ k → k < length es → by_bytes (key_at es k) key ≡ Greater)
 
 -- the order of the same entries
-both : (xs ys : List Entry) (a b c d : Entry) → a ≡ b → c ≡ d → by_bytes b.key d.key ≡ Less → by_bytes a.key c.key ≡ Less
+both : (xs ys : List PageEntry) (a b c d : PageEntry) → a ≡ b → c ≡ d → by_bytes b.key d.key ≡ Less → by_bytes a.key c.key ≡ Less
 both xs ys a b c d e f h = rw (e, f) h
 
 -- keys ascend with one more
-pub ascend-insert : (es : List Entry) (i : ℕ) (e : Entry) → i ≤ length es → Ascend es → Between es i e.key → Ascend (insert es i e)
+pub ascend-insert : (es : List PageEntry) (i : ℕ) (e : PageEntry) → i ≤ length es → Ascend es → Between es i e.key → Ascend (insert es i e)
 ascend-insert es i e le up between a b lt within =
     let n = length-insert es i e le in
     elim (from_insert es i e b le) [
@@ -102,19 +102,19 @@ ascend-insert es i e le up between a b lt within =
     ]
 
 -- where an entry of the shorter list stands in the old one
-abbrev pub FromRemove : List Entry → ℕ → ℕ → Type 0
-FromRemove es i k = (j : ℕ) × (get_or (remove es i) k no_entry ≡ get_or es j no_entry) × (((k < i) × (j ≡ k)) ⊎ ((i ≤ k) × (j ≡ k + 1)))
+abbrev pub FromRemove : List PageEntry → ℕ → ℕ → Type 0
+FromRemove es i k = (j : ℕ) × (get_or (remove es i) k empty_entry ≡ get_or es j empty_entry) × (((k < i) × (j ≡ k)) ⊎ ((i ≤ k) × (j ≡ k + 1)))
 
 -- each entry of the shorter list stands in the old one
-pub from_remove : (es : List Entry) (i k : ℕ) → i < length es → FromRemove es i k
+pub from_remove : (es : List PageEntry) (i k : ℕ) → i < length es → FromRemove es i k
 from_remove es i k lt =
     elim (cases_lt k i) [
-      | inl below ↦ (k, get_or-remove_below es i no_entry k below lt, inl (below, refl))
-      | inr above ↦ (k + 1, get_or-remove_above es i no_entry k above lt, inr (above, refl))
+      | inl below ↦ (k, get_or-remove_below es i empty_entry k below lt, inl (below, refl))
+      | inr above ↦ (k + 1, get_or-remove_above es i empty_entry k above lt, inr (above, refl))
     ]
 
 -- the limits of each entry with one fewer
-pub kept-remove : (leaf : _) (es : List Entry) (i : ℕ) → i < length es → AllKept leaf es → AllKept leaf (remove es i)
+pub kept-remove : (leaf : _) (es : List PageEntry) (i : ℕ) → i < length es → AllKept leaf es → AllKept leaf (remove es i)
 kept-remove leaf es i lt all k within =
     let n = length-remove es i lt in
     let f = from_remove es i k lt in
@@ -122,7 +122,7 @@ kept-remove leaf es i lt all k within =
     subst (KeepsEntry leaf) (sym f.1) (all f.0 j)
 
 -- keys ascend with one fewer
-pub ascend-remove : (es : List Entry) (i : ℕ) → i < length es → Ascend es → Ascend (remove es i)
+pub ascend-remove : (es : List PageEntry) (i : ℕ) → i < length es → Ascend es → Ascend (remove es i)
 ascend-remove es i lt up a b less within =
     let n = length-remove es i lt in
     let f = from_remove es i a lt in

@@ -6,20 +6,20 @@ ghost use Rattle.std.specs.List.{insert, remove};
 ghost use Rattle.std.specs.declared.cmp.Ordering.TheVariants.{Less};
 ghost use Rattle.mdb_model.specs.Script.{is_table};
 ghost use Rattle.mdb_model.specs.declared.limits.TheConstants.{PAGE_ROOM};
-ghost use Rattle.row_page.specs.Page.{run, used};
+ghost use Rattle.row_page.specs.Page.{joined_cells, used};
 ghost use Rattle.row_page.specs.Entries.{
-  Entry,
+  PageEntry,
   IsPage,
   Becomes,
   HasKey,
   IsPlaceFor,
   KeepsEntry,
   cells_of,
-  cost_of,
+  used_bytes,
   entries_of,
-  entry_at,
+  page_entry_at,
   entry_cost,
-  head_of,
+  page_head_of,
   is_leaf,
   kind_on,
   key_at,
@@ -55,51 +55,51 @@ fn cells_used(page: &[u8; PAGE_BYTES]) -> usize
 /// `8 + key`.
 pub fn used_of(page: &[u8; PAGE_BYTES]) -> usize
     requires { IsPage page.now }
-    ensures { result ≡ cost_of page.now }
+    ensures { result ≡ used_bytes page.now }
 {
     cells_used(page)
 }
 
 /// Whether it is a row leaf, and not an index page.
-#[tactic(auto, unfolding(crate::specs::Entries::head_of))]
+#[tactic(auto, unfolding(crate::specs::Entries::page_head_of))]
 pub fn is_row_leaf(page: &[u8; PAGE_BYTES]) -> bool
-    ensures { result ≡ is_leaf (head_of page.now) }
+    ensures { result ≡ is_leaf (page_head_of page.now) }
 {
     byte_at(page, 0) == 1
 }
 
 /// Its level: 0 of a row leaf, 1 to 7 of an index page.
-#[tactic(auto, unfolding(crate::specs::Entries::head_of))]
+#[tactic(auto, unfolding(crate::specs::Entries::page_head_of))]
 pub fn level_of(page: &[u8; PAGE_BYTES]) -> u8
-    ensures { result ≡ (head_of page.now).level }
+    ensures { result ≡ (page_head_of page.now).level }
 {
     byte_at(page, 1)
 }
 
 /// The page that its header names as the next one, 0 for none. An index page names none.
-#[tactic(auto, unfolding(crate::specs::Entries::head_of))]
+#[tactic(auto, unfolding(crate::specs::Entries::page_head_of))]
 pub fn next_of(page: &[u8; PAGE_BYTES]) -> u32
-    ensures { result ≡ (head_of page.now).next }
+    ensures { result ≡ (page_head_of page.now).next }
 {
     u32_at(page, 12)
 }
 
-// Where entry i begins.
-fn slot_at(page: &[u8; PAGE_BYTES], i: usize) -> usize
+// Where an entry begins.
+fn slot_at(page: &[u8; PAGE_BYTES], index: usize) -> usize
     requires page { IsPage page.now }
-    requires within { i < length (entries_of page.now) }
-    ensures { result ≡ 64 + length (run (take i (cells_of page.now))) }
+    requires within { index < length (entries_of page.now) }
+    ensures { result ≡ 64 + length (joined_cells (take index (cells_of page.now))) }
 {
-    u16_at(page, PAGE_BYTES - 2 - 2 * i) as usize
+    u16_at(page, PAGE_BYTES - 2 - 2 * index) as usize
 }
 
-/// The key of entry i.
-pub fn key_of(page: &[u8; PAGE_BYTES], i: usize) -> &[u8]
+/// The key of the entry at an index.
+pub fn key_of(page: &[u8; PAGE_BYTES], index: usize) -> &[u8]
     requires page { IsPage page.now }
-    requires within { i < length (entries_of page.now) }
-    ensures { result.now ≡ key_at (entries_of page.now) i }
+    requires within { index < length (entries_of page.now) }
+    ensures { result.now ≡ key_at (entries_of page.now) index }
 {
-    let at = slot_at(page, i);
+    let at = slot_at(page, index);
     let n = u16_at(page, at) as usize;
     let (_, back) = page.split_at(at + 6);
     back.split_at(n).0
@@ -138,14 +138,14 @@ fn size_of(leaf: bool, key: &[u8], rest: &[u8]) -> usize
 }
 
 // Where cell i begins or would begin, counted from the first.
-fn place_of(page: &[u8; PAGE_BYTES], i: usize) -> usize
+fn place_of(page: &[u8; PAGE_BYTES], index: usize) -> usize
     requires page { IsPage page.now }
-    requires within { i ≤ length (entries_of page.now) }
-    ensures { result ≡ length (run (take i (cells_of page.now))) }
+    requires within { index ≤ length (entries_of page.now) }
+    ensures { result ≡ length (joined_cells (take index (cells_of page.now))) }
 {
     let count = count_of(page);
-    if i < count {
-        slot_at(page, i) - HEAD_BYTES
+    if index < count {
+        slot_at(page, index) - HEAD_BYTES
     } else {
         cells_used(page) - 2 * count
     }
@@ -156,10 +156,10 @@ fn place_of(page: &[u8; PAGE_BYTES], i: usize) -> usize
 pub fn insert(page: &mut [u8; PAGE_BYTES], at: usize, key: &[u8], rest: &[u8])
     requires page { IsPage page.old }
     requires place { IsPlaceFor (entries_of page.old) key.now at }
-    requires kept { KeepsEntry (is_leaf (head_of page.old))
+    requires kept { KeepsEntry (is_leaf (page_head_of page.old))
         (record { key = key.now; rest = rest.now }) }
-    requires fits { cost_of page.old
-        + entry_cost (is_leaf (head_of page.old)) (record { key = key.now; rest = rest.now })
+    requires fits { used_bytes page.old
+        + entry_cost (is_leaf (page_head_of page.old)) (record { key = key.now; rest = rest.now })
         ≤ PAGE_ROOM }
     ensures { Becomes page.old page.new
         (insert (entries_of page.old) at (record { key = key.now; rest = rest.now })) }
@@ -176,12 +176,13 @@ pub fn insert(page: &mut [u8; PAGE_BYTES], at: usize, key: &[u8], rest: &[u8])
 }
 
 // The bytes of cell i.
-fn cell_size(page: &[u8; PAGE_BYTES], i: usize) -> usize
+fn cell_size(page: &[u8; PAGE_BYTES], index: usize) -> usize
     requires page { IsPage page.now }
-    requires within { i < length (entries_of page.now) }
-    ensures { result ≡ cell_len (is_leaf (head_of page.now)) (entry_at (entries_of page.now) i) }
+    requires within { index < length (entries_of page.now) }
+    ensures { result ≡ cell_len (is_leaf (page_head_of page.now))
+        (page_entry_at (entries_of page.now) index) }
 {
-    place_of(page, i + 1) - place_of(page, i)
+    place_of(page, index + 1) - place_of(page, index)
 }
 
 /// Takes entry i out.
@@ -200,24 +201,24 @@ pub fn remove(page: &mut [u8; PAGE_BYTES], at: usize)
     write_two(head, 10, (total - n - 2) as u16);
 }
 
-/// The page below entry i of an index page.
-pub fn child_of(page: &[u8; PAGE_BYTES], i: usize) -> u32
+/// The page below the entry at an index, of an index page.
+pub fn child_of(page: &[u8; PAGE_BYTES], index: usize) -> u32
     requires page { IsPage page.now }
-    requires index { is_leaf (head_of page.now) ≡ false }
-    requires within { i < length (entries_of page.now) }
-    ensures { result ≡ child_number (entry_at (entries_of page.now) i) }
+    requires index { is_leaf (page_head_of page.now) ≡ false }
+    requires within { index < length (entries_of page.now) }
+    ensures { result ≡ child_number (page_entry_at (entries_of page.now) index) }
 {
-    u32_at(page, slot_at(page, i) + 2)
+    u32_at(page, slot_at(page, index) + 2)
 }
 
 /// The value of row i of a row leaf.
-pub fn value_of(page: &[u8; PAGE_BYTES], i: usize) -> &[u8]
+pub fn value_of(page: &[u8; PAGE_BYTES], index: usize) -> &[u8]
     requires page { IsPage page.now }
-    requires leaf { is_leaf (head_of page.now) ≡ true }
-    requires within { i < length (entries_of page.now) }
-    ensures { result.now ≡ (entry_at (entries_of page.now) i).rest }
+    requires leaf { is_leaf (page_head_of page.now) ≡ true }
+    requires within { index < length (entries_of page.now) }
+    ensures { result.now ≡ (page_entry_at (entries_of page.now) index).rest }
 {
-    let at = slot_at(page, i);
+    let at = slot_at(page, index);
     let key_len = u16_at(page, at) as usize;
     let value_len = u16_at(page, at + 2) as usize;
     let (_, back) = page.split_at(at + 6 + key_len);
@@ -229,7 +230,7 @@ pub fn split(from: &mut [u8; PAGE_BYTES], to: &mut [u8; PAGE_BYTES], at: usize)
     requires from { IsPage from.old }
     requires to { IsPage to.old }
     requires empty { length (entries_of to.old) ≡ 0 }
-    requires kinds { is_leaf (head_of to.old) ≡ is_leaf (head_of from.old) }
+    requires kinds { is_leaf (page_head_of to.old) ≡ is_leaf (page_head_of from.old) }
     requires within { at ≤ length (entries_of from.old) }
     ensures first { Becomes from.old from.new (take at (entries_of from.old)) }
     ensures second { Becomes to.old to.new (drop at (entries_of from.old)) }
@@ -261,8 +262,8 @@ pub fn clear(page: &mut [u8; PAGE_BYTES])
 pub fn merge(into: &mut [u8; PAGE_BYTES], from: &mut [u8; PAGE_BYTES])
     requires into { IsPage into.old }
     requires from { IsPage from.old }
-    requires kinds { is_leaf (head_of from.old) ≡ is_leaf (head_of into.old) }
-    requires room { cost_of into.old + cost_of from.old ≤ PAGE_ROOM }
+    requires kinds { is_leaf (page_head_of from.old) ≡ is_leaf (page_head_of into.old) }
+    requires room { used_bytes into.old + used_bytes from.old ≤ PAGE_ROOM }
     requires below { (i j : ℕ) → i < length (entries_of into.old) → j < length (entries_of from.old)
         → by_bytes (key_at (entries_of into.old) i) (key_at (entries_of from.old) j) ≡ Less }
     ensures first { Becomes into.old into.new (entries_of into.old ++ entries_of from.old) }
@@ -300,7 +301,7 @@ pub fn start(page: &mut [u8; PAGE_BYTES], level: u8, table: Table, own: u32)
     requires level { level ≤ 7 }
     requires table { IsTrue (is_table table.0) }
     ensures page { IsPage page.new }
-    ensures head { head_of page.new
+    ensures head { page_head_of page.new
         ≡ record { kind = kind_on level; level = level; table = table.0; own = own; next = 0 } }
     ensures empty { entries_of page.new ≡ [] }
 {
@@ -312,9 +313,9 @@ pub fn start(page: &mut [u8; PAGE_BYTES], level: u8, table: Table, own: u32)
 /// Sets the page that a row leaf names as the next one, 0 for none.
 pub fn set_next(page: &mut [u8; PAGE_BYTES], next: u32)
     requires page { IsPage page.old }
-    requires leaf { is_leaf (head_of page.old) ≡ true }
+    requires leaf { is_leaf (page_head_of page.old) ≡ true }
     ensures page { IsPage page.new }
-    ensures head { head_of page.new ≡ record (head_of page.old) { next = next } }
+    ensures head { page_head_of page.new ≡ record (page_head_of page.old) { next = next } }
     ensures entries { entries_of page.new ≡ entries_of page.old }
 {
     let (head, _body) = page.split_at_mut(HEAD_BYTES);

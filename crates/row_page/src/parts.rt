@@ -4,8 +4,8 @@ ghost use Rattle.std.specs.Prelude.{List, length, Bool, true, false};
 ghost use Rattle.byteorder.specs.Endian.{big_bytes};
 ghost use Rattle.mdb_bytes.specs.Fields.{number_at, spelled};
 ghost use Rattle.mdb_bytes.specs.LogicalPages.{header_fields};
-ghost use Rattle.row_page.specs.Page.{opened, closed, over, run, slots};
-ghost use Rattle.row_page.specs.Entries.{cell_of, cell_len, Entry, KeepsEntry};
+ghost use Rattle.row_page.specs.Page.{inserted_at, closed, written_at, joined_cells, slots};
+ghost use Rattle.row_page.specs.Entries.{cell_of, cell_len, PageEntry, KeepsEntry};
 
 use byteorder::{BigEndian, ByteOrder};
 use mdb_bytes::u16_at;
@@ -60,42 +60,42 @@ pub fn write_cell(into: &mut [u8], leaf: bool, key: &[u8], rest: &[u8])
 }
 
 /// Puts a cell in at a place; as many bytes fall off at the end.
-pub fn open_cell(part: &mut [u8], at: usize, n: usize, leaf: bool, key: &[u8], rest: &[u8])
+pub fn open_cell(part: &mut [u8], at: usize, size: usize, leaf: bool, key: &[u8], rest: &[u8])
     requires kept { KeepsEntry leaf (record { key = key.now; rest = rest.now }) }
-    requires size { n ≡ cell_len leaf (record { key = key.now; rest = rest.now }) }
-    requires room { at + n ≤ length part.old }
+    requires size { size ≡ cell_len leaf (record { key = key.now; rest = rest.now }) }
+    requires room { at + size ≤ length part.old }
     ensures { part.new
-        ≡ opened at (cell_of leaf (record { key = key.now; rest = rest.now })) part.old }
+        ≡ inserted_at at (cell_of leaf (record { key = key.now; rest = rest.now })) part.old }
 {
-    let end = part.len() - n;
-    part.copy_within(at..end, at + n);
-    write_cell(&mut part[at..at + n], leaf, key, rest);
+    let end = part.len() - size;
+    part.copy_within(at..end, at + size);
+    write_cell(&mut part[at..at + size], leaf, key, rest);
 }
 
 /// Takes n bytes out at a place, and fills the end with zeros.
-pub fn close_gap(part: &mut [u8], at: usize, n: usize)
-    requires { at + n ≤ length part.old }
-    ensures { part.new ≡ closed at n part.old }
+pub fn close_gap(part: &mut [u8], at: usize, size: usize)
+    requires { at + size ≤ length part.old }
+    ensures { part.new ≡ closed at size part.old }
 {
     let end = part.len();
-    part.copy_within(at + n..end, at);
-    part[end - n..].fill(0);
+    part.copy_within(at + size..end, at);
+    part[end - size..].fill(0);
 }
 
 /// Writes a number of two bytes at a place.
-pub fn write_two(part: &mut [u8], at: usize, n: u16)
+pub fn write_two(part: &mut [u8], at: usize, number: u16)
     requires { at + 2 ≤ length part.old }
-    ensures { part.new ≡ over at (big_bytes 2 n) part.old }
+    ensures { part.new ≡ written_at at (big_bytes 2 number) part.old }
 {
-    BigEndian::write_u16(&mut part[at..at + 2], n);
+    BigEndian::write_u16(&mut part[at..at + 2], number);
 }
 
 /// Writes a number of four bytes at a place.
-pub fn write_four(part: &mut [u8], at: usize, n: u32)
+pub fn write_four(part: &mut [u8], at: usize, number: u32)
     requires { at + 4 ≤ length part.old }
-    ensures { part.new ≡ over at (big_bytes 4 n) part.old }
+    ensures { part.new ≡ written_at at (big_bytes 4 number) part.old }
 {
-    BigEndian::write_u32(&mut part[at..at + 4], n);
+    BigEndian::write_u32(&mut part[at..at + 4], number);
 }
 
 /// Writes the header of a page without entries.
@@ -116,10 +116,12 @@ pub fn write_head(head: &mut [u8], kind: u8, level: u8, table: u16, own: u32)
 
 /// Makes the slots of cells that begin at one place those of the same cells at another place.
 pub fn move_slots(part: &mut [u8], from: usize, to: usize)
-    requires { (cs : List (List ℕ)) × (part.old ≡ slots from cs) × (from + length (run cs) < 2 ^ 16)
-        × (to + length (run cs) < 2 ^ 16) }
-    ensures { (cs : List (List ℕ)) → part.old ≡ slots from cs → from + length (run cs) < 2 ^ 16
-        → to + length (run cs) < 2 ^ 16 → part.new ≡ slots to cs }
+    requires { (cs : List (List ℕ)) × (part.old ≡ slots from cs)
+        × (from + length (joined_cells cs) < 2 ^ 16)
+        × (to + length (joined_cells cs) < 2 ^ 16) }
+    ensures { (cs : List (List ℕ)) → part.old ≡ slots from cs
+        → from + length (joined_cells cs) < 2 ^ 16
+        → to + length (joined_cells cs) < 2 ^ 16 → part.new ≡ slots to cs }
 {
     let count = part.len() / 2;
     for k in 0..count {

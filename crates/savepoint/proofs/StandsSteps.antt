@@ -11,19 +11,19 @@ use Rattle.mdb_host.specs.Disk.{Disk, Goes, Arrives}
 use Rattle.mdb_host.proofs.Moments.{widen}
 use Rattle.mdb_bytes.specs.declared.converter_pages.ConverterEntry.{ConverterEntry}
 use Rattle.mdb_bytes.specs.declared.restart_record.RestartRecord.{RestartRecord}
-use Rattle.volume_disk.specs.Blocks.{Writes, place, page_of, block_at}
+use Rattle.volume_disk.specs.Blocks.{Writes, place, device_page, block_at}
 use Rattle.volume_disk.proofs.Places.{place_here, apart}
 use Rattle.volume_disk.proofs.Pages.{page_kept, page_agrees, data_is}
 use Rattle.gate_slots.specs.declared.body.SlotBody.TheVariants.{Restart}
 use Rattle.gate_slots.specs.declared.place.SlotPlace.{SlotPlace}
 use Rattle.gate_slots.specs.declared.slots.Slots.{Slots}
 use Rattle.gate_slots.specs.Slots.{in_force, IsReady}
-use Rattle.gate_slots.specs.Steps.{SlotsTorn, Switches, Switched}
+use Rattle.gate_slots.specs.Steps.{SlotsTorn, Switches, HasSwitched}
 use Rattle.gate_slots.proofs.Kept.{SamePages, ready_bytes, force_bytes}
 use Rattle.gate_slots.proofs.Forces.{ready_force}
 use Rattle.free_blocks.specs.Free.{IsFree}
 use Rattle.converter.specs.Maps.{Maps, AreUnused, block_of}
-use Rattle.savepoint.specs.Stands.{restart_place, Holds, Stands, IsPlaced, AtSwitch, KeepsSlots, KeepsMaps}
+use Rattle.savepoint.specs.Stands.{restart_place, HoldsMap, HasSavepoint, IsMapPlaced, AtSwitch, KeepsSlots, KeepsMapBlocks}
 use Rattle.savepoint.proofs.AlongSteps.{tree_moved}
 
 -- the first two blocks are the first two pages of the first volume
@@ -31,21 +31,21 @@ pub slot_place : (sizes : List ℕ) (b : ℕ) → 2 ≤ get_or sizes 0 0 → b <
 slot_place [] b big lt = absurd (omega (arith, big))
 slot_place (n ∷ ns) b big lt = place_here 1 n ns b (omega (arith, big, lt))
 
-pub page_byte : (image : Image) (d : Device) (p i : ℕ) → i < 8192 → get_or (page_of image d p) i 0 ≡ byte_at (image d) (8192 * p + i)
-unfolding page_of
+pub page_byte : (image : Image) (d : Device) (p i : ℕ) → i < 8192 → get_or (device_page image d p) i 0 ≡ byte_at (image d) (8192 * p + i)
+unfolding device_page
 page_byte image d p i lt = get_or-take 8192 _ i 0 lt ∙ get_or-drop (8192 * p) (bytes_of (image d)) i 0
 
 -- a map whose blocks keep their bytes
-pub holds_moved : (sizes : List ℕ) (m : List ConverterEntry) (conv : ℕ) (pages : ℕ → List ℕ) (a b : Image) → IsPlaced sizes m conv
-    → ((c : ℕ) → 1 < c → c < sum sizes → (q : ℕ) → block_of m q ≡ c → block_at sizes b c ≡ block_at sizes a c) → Holds sizes m conv pages a → Holds sizes m conv pages b
+pub holds_moved : (sizes : List ℕ) (m : List ConverterEntry) (conv : ℕ) (pages : ℕ → List ℕ) (a b : Image) → IsMapPlaced sizes m conv
+    → ((c : ℕ) → 1 < c → c < sum sizes → (q : ℕ) → block_of m q ≡ c → block_at sizes b c ≡ block_at sizes a c) → HoldsMap sizes m conv pages a → HoldsMap sizes m conv pages b
 holds_moved sizes m conv pages a b placed same holds = record {
   tree = tree_moved m conv (block_at sizes a) (block_at sizes b) (λ q lt. same (block_of m q) (placed.own q lt) (placed.below q) q refl) placed.some holds.tree;
   page = λ p some. same (block_of m (conv + p)) (placed.high (conv + p) some) (placed.below (conv + p)) (conv + p) refl ∙ holds.page p some;
 }
 
 -- writes to blocks that the map does not have
-pub holds_stays : (sizes : List ℕ) (set : ℕ → Type 0) (m : List ConverterEntry) (conv : ℕ) (pages : ℕ → List ℕ) (a b : Image) → IsPlaced sizes m conv
-    → ((q : ℕ) → set (block_of m q) → ⊥) → Writes sizes set a b → Holds sizes m conv pages a → Holds sizes m conv pages b
+pub holds_stays : (sizes : List ℕ) (set : ℕ → Type 0) (m : List ConverterEntry) (conv : ℕ) (pages : ℕ → List ℕ) (a b : Image) → IsMapPlaced sizes m conv
+    → ((q : ℕ) → set (block_of m q) → ⊥) → Writes sizes set a b → HoldsMap sizes m conv pages a → HoldsMap sizes m conv pages b
 holds_stays sizes set m conv pages a b placed spared writes holds =
     holds_moved sizes m conv pages a b placed (λ c high below q is. writes.outside c below (λ written. spared q (subst (λ (x : ℕ). set x) (sym is) written))) holds
 
@@ -54,7 +54,7 @@ low_bytes : (sizes : List ℕ) (set : ℕ → Type 0) (a b : Image) → 2 ≤ ge
     → (p i : ℕ) → p < 2 → i < 8192 → byte_at (b (Data 1)) (8192 * p + i) ≡ byte_at (a (Data 1)) (8192 * p + i)
 low_bytes sizes set a b big two high writes p i lt less =
     let same = writes.outside p (omega (arith, two, lt)) (λ is. omega (arith, high p is, lt)) in
-    let here = subst (λ (x : ℕ × ℕ). page_of b (Data x.0) x.1 ≡ page_of a (Data x.0) x.1) (slot_place sizes p big lt) same in
+    let here = subst (λ (x : ℕ × ℕ). device_page b (Data x.0) x.1 ≡ device_page a (Data x.0) x.1) (slot_place sizes p big lt) same in
     sym (page_byte b (Data 1) p i less) ∙ ap (λ (l : List ℕ). get_or l i 0) here ∙ page_byte a (Data 1) p i less
 
 -- at least as many blocks as the first volume has
@@ -78,7 +78,7 @@ slots_stay sizes set a b high writes big = record {
     }
 
 -- what writes to free blocks leave
-pub free_keeps : (sizes : List ℕ) (flags : List Bool) (maps : Maps) (a b : Image) → AreUnused maps flags → Writes sizes (IsFree flags) a b → KeepsMaps sizes flags a b
+pub free_keeps : (sizes : List ℕ) (flags : List Bool) (maps : Maps) (a b : Image) → AreUnused maps flags → Writes sizes (IsFree flags) a b → KeepsMapBlocks sizes flags a b
 free_keeps sizes flags maps a b unused writes =
     let slots = slots_stay sizes (IsFree flags) a b (λ c free. (unused c free).0) writes in
     record {
@@ -92,7 +92,7 @@ free_keeps sizes flags maps a b unused writes =
     }
 
 -- at each moment of a stretch of such writes
-pub free_writes : (sizes : List ℕ) (flags : List Bool) (maps : Maps) (d0 d1 : Disk) → AreUnused maps flags → Goes d0 d1 (Writes sizes (IsFree flags)) → Goes d0 d1 (KeepsMaps sizes flags)
+pub free_writes : (sizes : List ℕ) (flags : List Bool) (maps : Maps) (d0 d1 : Disk) → AreUnused maps flags → Goes d0 d1 (Writes sizes (IsFree flags)) → Goes d0 d1 (KeepsMapBlocks sizes flags)
 free_writes sizes flags maps d0 d1 unused goes = widen d0 d1 _ _ goes (λ a b left writes. free_keeps sizes flags maps a b unused writes)
 
 -- a switch leaves each block from 2 on
@@ -107,7 +107,7 @@ switch_blocks sizes a b c big high torn = elim (cases_eq (place 1 sizes c).0 1) 
             absurd (omega (arith, lt, high, is))
         | inr ge ↦ ge
       ] in
-      subst (λ (d : Device). page_of b d (place 1 sizes c).1 ≡ page_of a d (place 1 sizes c).1) (sym d_is)
+      subst (λ (d : Device). device_page b d (place 1 sizes c).1 ≡ device_page a d (place 1 sizes c).1) (sym d_is)
       (page_kept a b (Data 1) (place 1 sizes c).1 torn.size (λ k from to. torn.outside k (inr (omega (arith, from, far)))))
   | inr other ↦ page_agrees a b (Data (place 1 sizes c).0) (place 1 sizes c).1 (torn.others (Data (place 1 sizes c).0) (λ is. other (data_is _ _ is)))
 ]
@@ -115,20 +115,20 @@ switch_blocks sizes a b c big high torn = elim (cases_eq (place 1 sizes c).0 1) 
 module _ (d0 d1 : Disk) (sizes : List ℕ) (slots : Slots) (at : slots.place ≡ restart_place) (was next : RestartRecord) (old new : List ConverterEntry) (conv : ℕ) (before after : ℕ → List ℕ)
     (entry : AtSwitch d0 sizes slots was old new conv before after) (root : next.root ≡ block_of new 0)
     (goes : Goes d0 d1 (Switches slots (Restart next))) where
-  kept : (m : List ConverterEntry) (pages : ℕ → List ℕ) (a b : Image) → IsPlaced sizes m conv → Switches slots (Restart next) a b → Holds sizes m conv pages a → Holds sizes m conv pages b
+  kept : (m : List ConverterEntry) (pages : ℕ → List ℕ) (a b : Image) → IsMapPlaced sizes m conv → Switches slots (Restart next) a b → HoldsMap sizes m conv pages a → HoldsMap sizes m conv pages b
   kept m pages a b placed switches holds =
       let torn = subst (λ (p : SlotPlace). SlotsTorn p a b) at switches.torn in
       holds_moved sizes m conv pages a b placed (λ c high below q is. switch_blocks sizes a b c entry.both_slots high torn) holds
 
   -- at each moment one of the two
-  pub either_stands : Goes d0 d1 (λ a b. Stands sizes was old conv before b ⊎ Stands sizes next new conv after b)
+  pub either_stands : Goes d0 d1 (λ a b. HasSavepoint sizes was old conv before b ⊎ HasSavepoint sizes next new conv after b)
   either_stands = widen d0 d1 _ _ goes (λ a b left switches.
       ⊎_elim (λ force. inl (record { force = ap (λ (p : SlotPlace). in_force b p) (sym at) ∙ force; root = entry.root; map = kept old before a b entry.old_placed switches (entry.old_holds a left) }))
       (λ force. inr (record { force = ap (λ (p : SlotPlace). in_force b p) (sym at) ∙ force; root = root; map = kept new after a b entry.new_placed switches (entry.new_holds a left) }))
       (switches.force (Restart was) (entry.ready a left)))
 
   -- at last the new one
-  pub new_stands : (now : Slots) → now.place ≡ slots.place → Arrives d0 d1 (Switched slots now (Restart next)) → (image : Image) → d1.may_leave d1.now image → Stands sizes next new conv after image × IsReady now (Restart next) image
+  pub new_stands : (now : Slots) → now.place ≡ slots.place → Arrives d0 d1 (HasSwitched slots now (Restart next)) → (image : Image) → d1.may_leave d1.now image → HasSavepoint sizes next new conv after image × IsReady now (Restart next) image
   new_stands now same arrives image left =
       let s = arrives image left in
       let g = goes.since d1.now image goes.keeps.later (omega arith) left in

@@ -1,9 +1,9 @@
 -- What an image stands for.
 --     restart_place      where the two slots of the restart record stand
---     Holds      a map stands on its blocks
---     Stands      and the record in force names its root
---     IsPlaced, NoneFree      a map none of whose blocks is a slot, or is free
---     KeepsSlots, KeepsMaps      what writes to free blocks leave
+--     HoldsMap      a map stands on its blocks
+--     HasSavepoint      and the record in force names its root
+--     IsMapPlaced, NoneFree      a map none of whose blocks is a slot, or is free
+--     KeepsSlots, KeepsMapBlocks      what writes to free blocks leave
 --     AtSwitch      what a switch starts from
 use Rattle.std.specs.Prelude.{◌≡◌, ℕ, ◌+◌, ◌<◌, ◌≤◌, List, get_or, sum, Bool, Some}
 use Rattle.mdb_model.specs.declared.fault.Device.TheVariants.{Data}
@@ -26,22 +26,22 @@ abbrev pub restart_place : SlotPlace
 restart_place = record { device = Data 1; page = 0 }
 
 -- a map on its blocks: root, leaves and the bytes of each page
-pub record Holds (sizes : List ℕ) (m : List ConverterEntry) (conv : ℕ) (pages : ℕ → List ℕ)
+pub record HoldsMap (sizes : List ℕ) (m : List ConverterEntry) (conv : ℕ) (pages : ℕ → List ℕ)
     (image : Image) : Type 0 where
   pub tree : HasTree m conv (block_at sizes image)
   pub page : (p : ℕ) → 0 < block_of m (conv + p)
       → block_at sizes image (block_of m (conv + p)) ≡ pages p
 
 -- this record is in force, and names the root of this map
-pub record Stands (sizes : List ℕ) (restart : RestartRecord) (m : List ConverterEntry) (conv : ℕ)
-    (pages : ℕ → List ℕ) (image : Image) : Type 0 where
+pub record HasSavepoint (sizes : List ℕ) (restart : RestartRecord) (m : List ConverterEntry)
+    (conv : ℕ) (pages : ℕ → List ℕ) (image : Image) : Type 0 where
   pub force : in_force image restart_place ≡ Some (Restart restart)
   pub root : restart.root ≡ block_of m 0
-  pub map : Holds sizes m conv pages image
+  pub map : HoldsMap sizes m conv pages image
 
 -- a map with a block for each of the converter's own pages, none of whose blocks is one of the
 -- first two or past the area
-pub record IsPlaced (sizes : List ℕ) (m : List ConverterEntry) (conv : ℕ) : Type 0 where
+pub record IsMapPlaced (sizes : List ℕ) (m : List ConverterEntry) (conv : ℕ) : Type 0 where
   pub some : 0 < conv
   pub own : (q : ℕ) → q < conv → 1 < block_of m q
   pub high : (q : ℕ) → 0 < block_of m q → 1 < block_of m q
@@ -59,23 +59,24 @@ pub record KeepsSlots (old new : Image) : Type 0 where
 
 -- What writes to free blocks leave: the slots, each map that has no free block, and so what an
 -- image stands for.
-pub record KeepsMaps (sizes : List ℕ) (flags : List Bool) (old new : Image) : Type 0 where
+pub record KeepsMapBlocks (sizes : List ℕ) (flags : List Bool) (old new : Image) : Type 0 where
   pub slots : 2 ≤ get_or sizes 0 0 → KeepsSlots old new
-  pub holds : (m : List ConverterEntry) (conv : ℕ) (pages : ℕ → List ℕ) → IsPlaced sizes m conv
-      → NoneFree flags m → Holds sizes m conv pages old → Holds sizes m conv pages new
+  pub holds : (m : List ConverterEntry) (conv : ℕ) (pages : ℕ → List ℕ) → IsMapPlaced sizes m conv
+      → NoneFree flags m → HoldsMap sizes m conv pages old → HoldsMap sizes m conv pages new
   pub stands : (restart : RestartRecord) (m : List ConverterEntry) (conv : ℕ) (pages : ℕ → List ℕ)
-      → 2 ≤ get_or sizes 0 0 → IsPlaced sizes m conv → NoneFree flags m
-      → Stands sizes restart m conv pages old → Stands sizes restart m conv pages new
+      → 2 ≤ get_or sizes 0 0 → IsMapPlaced sizes m conv → NoneFree flags m
+      → HasSavepoint sizes restart m conv pages old → HasSavepoint sizes restart m conv pages new
 
 -- each image has the slots as they are known, with a record that names the root of the old map, and
 -- holds the old map and the new one
 pub record AtSwitch (disk : Disk) (sizes : List ℕ) (slots : Slots) (was : RestartRecord)
     (old new : List ConverterEntry) (conv : ℕ) (before after : ℕ → List ℕ) : Type 0 where
   pub both_slots : 2 ≤ get_or sizes 0 0
-  pub old_placed : IsPlaced sizes old conv
-  pub new_placed : IsPlaced sizes new conv
+  pub old_placed : IsMapPlaced sizes old conv
+  pub new_placed : IsMapPlaced sizes new conv
   pub root : was.root ≡ block_of old 0
   pub ready : (image : Image) → disk.may_leave disk.now image → IsReady slots (Restart was) image
   pub old_holds : (image : Image) → disk.may_leave disk.now image
-      → Holds sizes old conv before image
-  pub new_holds : (image : Image) → disk.may_leave disk.now image → Holds sizes new conv after image
+      → HoldsMap sizes old conv before image
+  pub new_holds : (image : Image) → disk.may_leave disk.now image
+      → HoldsMap sizes new conv after image

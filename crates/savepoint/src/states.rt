@@ -6,17 +6,18 @@ ghost use Rattle.mdb_model.specs.Causes.{HasCause};
 ghost use Rattle.mdb_model.specs.Images.{Image};
 ghost use Rattle.mdb_host.specs.Disk.{Disk, Goes, Agree, Arrives, IsWithin};
 ghost use Rattle.mdb_bytes.specs.declared.converter_pages.ConverterEntry.{ConverterEntry};
-ghost use Rattle.mdb_bytes.specs.Parts.{Keeps};
+ghost use Rattle.mdb_bytes.specs.Parts.{KeepsLimits};
 ghost use Rattle.mdb_bytes.specs.SlotRecords.{restart_format};
 ghost use Rattle.free_blocks.specs.Free.{IsFree, free_count};
-ghost use Rattle.volume_disk.specs.Blocks.{IsArea, Writes, block_at, IsSettled};
+ghost use Rattle.volume_disk.specs.Blocks.{IsArea, Writes, block_at, IsDurable};
 ghost use Rattle.gate_slots.specs.declared.body.SlotBody.TheVariants.{Restart};
 ghost use Rattle.gate_slots.specs.Slots.{IsReady};
-ghost use Rattle.gate_slots.specs.Steps.{SlotsTorn, Switches, Switched as SwitchedOver};
-ghost use Rattle.converter.specs.Maps.{Maps, entry_at, block_of, AreUnused, Leaves, Given, settled};
+ghost use Rattle.gate_slots.specs.Steps.{SlotsTorn, Switches, HasSwitched};
+ghost use Rattle.converter.specs.Maps.{Maps, entry_at, block_of, AreUnused, Leaves, FreesLeaving, frozen_as_saved};
 ghost use Rattle.converter.specs.Tree.{HasTree};
-ghost use Rattle.converter.specs.Own.{OwnOnly, Fewer, Taken, SavedLeaves};
-ghost use Rattle.savepoint.specs.Stands.{restart_place, Stands, AtSwitch, IsPlaced, KeepsMaps};
+ghost use Rattle.converter.specs.Own.{OwnOnly, Fewer, TakesForFrozen, SavedLeaves};
+ghost use Rattle.savepoint.specs.Calls.{MayWriteConverter, WritesConverter, MaySwitch, SwitchesOver};
+ghost use Rattle.savepoint.specs.Stands.{restart_place, HasSavepoint, AtSwitch, IsMapPlaced, KeepsMapBlocks};
 
 use crate::writing::write_settled;
 use arrayvec::ArrayVec;
@@ -93,7 +94,7 @@ impl Frozen {
         ensures goes { H.tells → Goes (H.disk host.old) (H.disk host.new) Agree }
         ensures seen { H.tells → Agree (H.disk host.old).seen (H.disk host.new).seen }
         // The result.
-        ensures settled { OnOk result (H.tells → IsSettled volumes.now (H.disk host.new)) }
+        ensures settled { OnOk result (H.tells → IsDurable volumes.now (H.disk host.new)) }
         ensures next { IfOk result (λ s. (s.map ≡ self.map) × (s.mark ≡ self.mark)) }
         ensures back { IfErr result (λ e. (e.0.map ≡ self.map) × (e.0.mark ≡ self.mark)) }
         // The faults.
@@ -120,39 +121,23 @@ impl PagesWritten {
         converter: &mut Converter,
         free: &mut FreeBlocks,
     ) -> Result<ConverterWritten, (PagesWritten, Failed)>
-        requires frozen { converter.old.frozen_at ≡ Some self.map.savepoint }
-        requires area { (length free.old ≡ length converter.old.owner)
-            × (sum volumes.now ≡ length converter.old.owner) }
+        requires may { MayWriteConverter H.tells volumes.now converter.old free.old
+            self.map.savepoint (H.disk host.old).seen }
         requires room { converter.old.conv ≤ free_count free.old }
-        requires unused { AreUnused converter.old free.old }
-        requires later { (q : ℕ) → q < converter.old.conv
-            → entry_at converter.old.frozen q ≡ entry_at converter.old.saved q }
-        requires there { H.tells → IsArea volumes.now (H.disk host.old).seen }
-        requires saved { H.tells
-            → SavedLeaves converter.old (block_at volumes.now (H.disk host.old).seen) }
         // The result.
         ensures next { IfOk result
             (λ s. (s.map ≡ self.map) × (s.mark ≡ self.mark)
             × (s.root ≡ block_of converter.new.frozen 0)) }
         ensures back { IfErr result (λ e. (e.0.map ≡ self.map) × (e.0.mark ≡ self.mark)) }
-        ensures placed { OnOk result
-            (IsPlaced volumes.now converter.new.frozen converter.new.conv) }
-        ensures own { OwnOnly converter.old converter.new }
-        ensures fewer { Fewer free.old free.new converter.old.conv }
-        ensures unused { AreUnused converter.new free.new }
-        // No block is lost: what is not free any more is a page of the converter.
-        ensures taken { Taken 0 free.old free.new converter.new }
-        ensures goes { H.tells
-            → Goes (H.disk host.old) (H.disk host.new) (Writes volumes.now (IsFree free.old)) }
-        ensures seen { H.tells
-            → Writes volumes.now (IsFree free.old) (H.disk host.old).seen (H.disk host.new).seen }
+        ensures writes { WritesConverter H.tells volumes.now converter.old converter.new free.old
+            free.new (H.disk host.old) (H.disk host.new) result }
         ensures held { OnOk result
             (H.tells → (image : Image) → (H.disk host.new).may_leave (H.disk host.new).now image
             → HasTree converter.new.frozen converter.new.conv (block_at volumes.now image)) }
         // At each moment each image has the slots and stands for the map that it stood for, where
         // no block of that is free.
         ensures kept { H.tells
-            → Goes (H.disk host.old) (H.disk host.new) (KeepsMaps volumes.now free.old) }
+            → Goes (H.disk host.old) (H.disk host.new) (KeepsMapBlocks volumes.now free.old) }
         // The faults.
         ensures cause { HasCause (H.faults host.old) (H.faults host.new) result }
         ensures say_faults { H.say_faults host.new ≡ H.say_faults host.old }
@@ -184,49 +169,16 @@ impl ConverterWritten {
         slots: &mut Slots,
         rec: &RestartRecord,
     ) -> Result<Switched, (ConverterWritten, Failed)>
-        requires place { slots.old.place ≡ restart_place }
-        requires root { rec.now.root ≡ self.root }
-        requires mark { (rec.now.savepoint ≡ self.mark.savepoint)
-            × (rec.now.commit ≡ self.mark.commit) × (rec.now.position ≡ self.mark.position) }
-        requires number { rec.now.slot ≡ slots.old.number + 1 }
-        requires keeps { Keeps restart_format rec.now }
+        requires may { MaySwitch slots.old self.root self.mark rec.now }
         requires within { H.tells
             → IsWithin (H.disk host.old).seen slots.old.place.device (8192 * slots.old.place.page)
             16384 }
         // The result.
-        ensures any_moment { H.tells
-            → Goes (H.disk host.old) (H.disk host.new) (Switches slots.old (Restart rec.now)) }
-        ensures there { OnOk result
-            (H.tells
-            → Arrives (H.disk host.old) (H.disk host.new)
-            (SwitchedOver slots.old slots.new (Restart rec.now))) }
-        ensures seen { H.tells
-            → SlotsTorn slots.old.place (H.disk host.old).seen (H.disk host.new).seen }
-        // At each moment every image stands for the last record's map or for the new one.
-        ensures crash { H.tells
-            → (sizes : List ℕ) (was : RestartRecord) (old new : List ConverterEntry) (conv : ℕ)
-            (before after : ℕ → List ℕ)
-            → AtSwitch (H.disk host.old) sizes slots.old was old new conv before after
-            → self.root ≡ block_of new 0
-            → Goes (H.disk host.old) (H.disk host.new)
-            (λ _ image. Stands sizes was old conv before image
-            ⊎ Stands sizes rec.now new conv after image) }
-        // Afterwards each stands for the new one, and the slots are ready for the next record.
-        ensures put { OnOk result
-            (H.tells
-            → (sizes : List ℕ) (was : RestartRecord) (old new : List ConverterEntry) (conv : ℕ)
-            (before after : ℕ → List ℕ)
-            → AtSwitch (H.disk host.old) sizes slots.old was old new conv before after
-            → self.root ≡ block_of new 0 → (image : Image)
-            → (H.disk host.new).may_leave (H.disk host.new).now image
-            → Stands sizes rec.now new conv after image
-            × IsReady slots.new (Restart rec.now) image) }
+        ensures switches { SwitchesOver H.tells (H.disk host.old) (H.disk host.new) slots.old
+            slots.new self.root rec.now result }
         ensures next { IfOk result (λ s. (s.map ≡ self.map) × (s.mark ≡ self.mark)) }
-        ensures number { OnOk result
-            ((slots.new.place ≡ slots.old.place) × (slots.new.number ≡ rec.now.slot)) }
         ensures back { IfErr result
             (λ e. (e.0.map ≡ self.map) × (e.0.mark ≡ self.mark) × (e.0.root ≡ self.root)) }
-        ensures same { OnErr result (slots.new ≡ slots.old) }
         // The faults.
         ensures cause { HasCause (H.faults host.old) (H.faults host.new) result }
         ensures say_faults { H.say_faults host.new ≡ H.say_faults host.old }
@@ -283,8 +235,8 @@ impl Switched {
             × (length marks.now ≡ length converter.old.owner) }
         requires unused { AreUnused converter.old free.old }
         ensures mark { result ≡ self.mark }
-        ensures maps { converter.new ≡ settled converter.old }
-        ensures given { Given (Leaves converter.old marks.now) 0 (length converter.old.saved)
+        ensures maps { converter.new ≡ frozen_as_saved converter.old }
+        ensures given { FreesLeaving (Leaves converter.old marks.now) 0 (length converter.old.saved)
             free.old free.new }
     {
         let Switched { map, mark } = self;

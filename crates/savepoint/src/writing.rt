@@ -5,11 +5,12 @@ ghost use Rattle.mdb_model.specs.Causes.{HasCause};
 ghost use Rattle.mdb_model.specs.Images.{Image};
 ghost use Rattle.mdb_host.specs.Disk.{Disk, Goes, Agree};
 ghost use Rattle.free_blocks.specs.Free.{IsFree, free_count};
-ghost use Rattle.volume_disk.specs.Blocks.{IsArea, Writes, block_at, IsSettled};
-ghost use Rattle.converter.specs.Maps.{Maps, IsSound, entry_at, block_of, AreUnused};
-ghost use Rattle.converter.specs.Tree.{LeafHeld, RootHeld, HasTree};
-ghost use Rattle.savepoint.specs.Stands.{IsPlaced};
-ghost use Rattle.converter.specs.Own.{OwnOnly, Fewer, Taken, OneOwn, LeavesHeld, SavedLeaves};
+ghost use Rattle.volume_disk.specs.Blocks.{IsArea, Writes, block_at, IsDurable};
+ghost use Rattle.converter.specs.Maps.{Maps, IsSoundMaps, entry_at, block_of, AreUnused};
+ghost use Rattle.converter.specs.Tree.{HasLeafBytes, HasRootBytes, HasTree};
+ghost use Rattle.savepoint.specs.Calls.{MayWriteConverter, WritesConverter};
+ghost use Rattle.savepoint.specs.Stands.{IsMapPlaced};
+ghost use Rattle.converter.specs.Own.{OwnOnly, Fewer, TakesForFrozen, OneOwn, HasLeavesBytes, SavedLeaves};
 
 use converter::{Converter, FrozenMap};
 use free_blocks::FreeBlocks;
@@ -43,11 +44,11 @@ fn write_changed<H: Host>(
         → Writes volumes.now (IsFree free.old) (H.disk host.old).seen (H.disk host.new).seen }
     ensures held { OnOk result
         (H.tells
-        → LeafHeld converter.new.frozen converter.new.conv leaf
+        → HasLeafBytes converter.new.frozen converter.new.conv leaf
         (block_at volumes.now (H.disk host.new).seen
         (block_of converter.new.frozen (leaf + 1)))) }
     ensures placed { 1 < block_of converter.new.frozen (leaf + 1) }
-    ensures sound { IsSound converter.old }
+    ensures sound { IsSoundMaps converter.old }
     ensures cause { HasCause (H.faults host.old) (H.faults host.new) result }
     ensures say_faults { H.say_faults host.new ≡ H.say_faults host.old }
 {
@@ -65,29 +66,22 @@ fn write_leaves<H: Host>(
     converter: &mut Converter,
     free: &mut FreeBlocks,
 ) -> Result<(), Failed>
-    requires frozen { converter.old.frozen_at ≡ Some map.now.savepoint }
-    requires area { (length free.old ≡ length converter.old.owner)
-        × (sum volumes.now ≡ length converter.old.owner) }
+    requires may { MayWriteConverter H.tells volumes.now converter.old free.old
+        map.now.savepoint (H.disk host.old).seen }
     requires room { converter.old.conv ≤ free_count free.old + 1 }
-    requires unused { AreUnused converter.old free.old }
-    requires later { (q : ℕ) → q < converter.old.conv
-        → entry_at converter.old.frozen q ≡ entry_at converter.old.saved q }
-    requires there { H.tells → IsArea volumes.now (H.disk host.old).seen }
-    requires saved { H.tells
-        → SavedLeaves converter.old (block_at volumes.now (H.disk host.old).seen) }
     ensures placed { OnOk result
         ((q : ℕ) → 0 < q → q < converter.new.conv → 1 < block_of converter.new.frozen q) }
     ensures own { OwnOnly converter.old converter.new }
     ensures fewer { Fewer free.old free.new (converter.old.conv - 1) }
     ensures unused { AreUnused converter.new free.new }
-    ensures taken { Taken 1 free.old free.new converter.new }
+    ensures taken { TakesForFrozen 1 free.old free.new converter.new }
     ensures goes { H.tells
         → Goes (H.disk host.old) (H.disk host.new) (Writes volumes.now (IsFree free.old)) }
     ensures seen { H.tells
         → Writes volumes.now (IsFree free.old) (H.disk host.old).seen (H.disk host.new).seen }
     ensures held { OnOk result
         (H.tells
-        → LeavesHeld converter.new (converter.new.conv - 1)
+        → HasLeavesBytes converter.new (converter.new.conv - 1)
         (block_at volumes.now (H.disk host.new).seen)) }
     ensures cause { HasCause (H.faults host.old) (H.faults host.new) result }
     ensures say_faults { H.say_faults host.new ≡ H.say_faults host.old }
@@ -106,26 +100,12 @@ fn write_tree<H: Host>(
     converter: &mut Converter,
     free: &mut FreeBlocks,
 ) -> Result<u32, Failed>
-    requires frozen { converter.old.frozen_at ≡ Some map.now.savepoint }
-    requires area { (length free.old ≡ length converter.old.owner)
-        × (sum volumes.now ≡ length converter.old.owner) }
+    requires may { MayWriteConverter H.tells volumes.now converter.old free.old
+        map.now.savepoint (H.disk host.old).seen }
     requires room { converter.old.conv ≤ free_count free.old }
-    requires unused { AreUnused converter.old free.old }
-    requires later { (q : ℕ) → q < converter.old.conv
-        → entry_at converter.old.frozen q ≡ entry_at converter.old.saved q }
-    requires there { H.tells → IsArea volumes.now (H.disk host.old).seen }
-    requires saved { H.tells
-        → SavedLeaves converter.old (block_at volumes.now (H.disk host.old).seen) }
     ensures root { IfOk result (λ r. r ≡ block_of converter.new.frozen 0) }
-    ensures placed { OnOk result (IsPlaced volumes.now converter.new.frozen converter.new.conv) }
-    ensures own { OwnOnly converter.old converter.new }
-    ensures fewer { Fewer free.old free.new converter.old.conv }
-    ensures unused { AreUnused converter.new free.new }
-    ensures taken { Taken 0 free.old free.new converter.new }
-    ensures goes { H.tells
-        → Goes (H.disk host.old) (H.disk host.new) (Writes volumes.now (IsFree free.old)) }
-    ensures seen { H.tells
-        → Writes volumes.now (IsFree free.old) (H.disk host.old).seen (H.disk host.new).seen }
+    ensures writes { WritesConverter H.tells volumes.now converter.old converter.new free.old
+        free.new (H.disk host.old) (H.disk host.new) result }
     ensures held { OnOk result
         (H.tells
         → HasTree converter.new.frozen converter.new.conv
@@ -150,26 +130,12 @@ pub(crate) fn write_settled<H: Host>(
     converter: &mut Converter,
     free: &mut FreeBlocks,
 ) -> Result<u32, Failed>
-    requires frozen { converter.old.frozen_at ≡ Some map.now.savepoint }
-    requires area { (length free.old ≡ length converter.old.owner)
-        × (sum volumes.now ≡ length converter.old.owner) }
+    requires may { MayWriteConverter H.tells volumes.now converter.old free.old
+        map.now.savepoint (H.disk host.old).seen }
     requires room { converter.old.conv ≤ free_count free.old }
-    requires unused { AreUnused converter.old free.old }
-    requires later { (q : ℕ) → q < converter.old.conv
-        → entry_at converter.old.frozen q ≡ entry_at converter.old.saved q }
-    requires there { H.tells → IsArea volumes.now (H.disk host.old).seen }
-    requires saved { H.tells
-        → SavedLeaves converter.old (block_at volumes.now (H.disk host.old).seen) }
     ensures root { IfOk result (λ r. r ≡ block_of converter.new.frozen 0) }
-    ensures placed { OnOk result (IsPlaced volumes.now converter.new.frozen converter.new.conv) }
-    ensures own { OwnOnly converter.old converter.new }
-    ensures fewer { Fewer free.old free.new converter.old.conv }
-    ensures unused { AreUnused converter.new free.new }
-    ensures taken { Taken 0 free.old free.new converter.new }
-    ensures goes { H.tells
-        → Goes (H.disk host.old) (H.disk host.new) (Writes volumes.now (IsFree free.old)) }
-    ensures seen { H.tells
-        → Writes volumes.now (IsFree free.old) (H.disk host.old).seen (H.disk host.new).seen }
+    ensures writes { WritesConverter H.tells volumes.now converter.old converter.new free.old
+        free.new (H.disk host.old) (H.disk host.new) result }
     ensures held { OnOk result
         (H.tells → (image : Image) → (H.disk host.new).may_leave (H.disk host.new).now image
         → HasTree converter.new.frozen converter.new.conv (block_at volumes.now image)) }

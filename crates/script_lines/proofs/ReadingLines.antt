@@ -7,7 +7,7 @@ use Rattle.std.proofs.lemmas.List.Elements.{All-append, All-same, All-take, All-
 use Rattle.std.proofs.lemmas.List.Quantifiers.{position-Some}
 use Rattle.std.proofs.lemmas.List.Sums.{fails_before_first}
 use Rattle.script_lines.specs.declared.lines.Scanned.TheVariants.{Newline}
-use Rattle.script_lines.specs.Reading.{Pulls, HasNoNewline, IsScanned, Drops, Stays}
+use Rattle.script_lines.specs.Reading.{Pulls, HasNoNewline, IsNewlineScanned, Drops, PullsNoNewline}
 use Rattle.script_lines.proofs.ReadingWindow.{Pulls-more}
 
 abbrev pub IsNoNewline : ℕ → Type 0
@@ -28,7 +28,7 @@ searched_none bytes searched before h =
     (All-append IsNoNewline (take searched bytes) (drop searched bytes) before (no_newline_from_position (drop searched bytes) _ refl h))
 
 -- the first LF
-pub searched_some : (bytes : List ℕ) (searched place : ℕ) → searched ≤ length bytes → HasNoNewline (take searched bytes) → position (λ b. b == 10) (drop searched bytes) ≡ Some place → IsScanned bytes (Newline (searched + place))
+pub searched_some : (bytes : List ℕ) (searched place : ℕ) → searched ≤ length bytes → HasNoNewline (take searched bytes) → position (λ b. b == 10) (drop searched bytes) ≡ Some place → IsNewlineScanned bytes (Newline (searched + place))
 searched_some bytes searched place within before h =
     let p = position-Some (λ b. b == 10) (drop searched bytes) place 0 h in
     let low : searched + place < length bytes = omega (arith, p.0, length-drop searched bytes) in
@@ -47,7 +47,7 @@ searched_some bytes searched place within before h =
 Pulls-behind : (before after : Option (List ℕ)) (front old new : List ℕ) → Pulls before after old new → Pulls before after (front ++ old) (front ++ new)
 Pulls-behind before after front old new h = (h.0, ap (λ xs. front ++ xs) h.1 ∙ sym (append_assoc front old h.0), h.2)
 
--- more was pulled behind what was dropped
+-- more was pulled after what was dropped
 Drops-pulls : (a b c : Option (List ℕ)) (old held now dropped : List ℕ) → Pulls a b old (dropped ++ held) → Pulls b c held now → Pulls a c old (dropped ++ now)
 Drops-pulls a b c old held now dropped h k = Pulls-more a b c old (dropped ++ held) (dropped ++ now) h (Pulls-behind b c dropped held now k)
 
@@ -84,5 +84,5 @@ Drops-shorten before after old held count n h none long e = (
   inr (omega arith, omega (arith, length-drop n held), All-take IsNoNewline 1 (drop n held) (All-drop IsNoNewline n held none)),
 )
 
-pub Drops-fails : (a b c : Option (List ℕ)) (old held now : List ℕ) (count : ℕ) → Drops a b old count held → Pulls b c held now → HasNoNewline now → Stays a c old now
+pub Drops-fails : (a b c : Option (List ℕ)) (old held now : List ℕ) (count : ℕ) → Drops a b old count held → Pulls b c held now → HasNoNewline now → PullsNoNewline a c old now
 Drops-fails a b c old held now count h k none = (h.0, All-append IsNoNewline h.0 now h.2 none, Drops-pulls a b c old held now h.0 h.3 k)

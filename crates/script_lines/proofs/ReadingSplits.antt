@@ -88,7 +88,7 @@ pub ended_at : (front : List ℕ) → ended_part (front ++ 10 ∷ []) ≡ front 
 ended_at front =
     ap (λ bs. reverse (from_newline bs)) (reverse-append front (10 ∷ [])) ∙ ap reverse (sym (reverse-append front (10 ∷ []))) ∙ reverse-reverse (front ++ 10 ∷ [])
 
--- the lines behind an end
+-- the lines after an end
 pub lines-append : (front more : List ℕ) → ended_part front ≡ front → lines (front ++ more) ≡ lines front ++ lines more
 lines-append front more e =
     ⊎_elim

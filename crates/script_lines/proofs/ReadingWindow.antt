@@ -4,7 +4,7 @@ use Rattle.std.specs.List.{copy_within}
 use Rattle.std.proofs.Math.Seq.{take-append-add}
 use Rattle.std.proofs.lemmas.List.{drop-drop, drop-take, drop-append-le, take-append-le, length-take-le, length-drop, take_at, take-append-drop, take_all, append-nil}
 use Rattle.mdb_host.specs.Script.{TakesFrom}
-use Rattle.script_lines.specs.Reading.{Pulls, Gives}
+use Rattle.script_lines.specs.Reading.{Pulls, GivesBytes}
 use Rattle.std.proofs.lemmas.Slice.{between_is}
 
 -- the first count bytes are taken off
@@ -14,7 +14,7 @@ window_skip items start end count h =
     ap (take (end - (start + count))) (sym (drop-drop count start items)) ∙ sym (drop-take count (end - (start + count)) (drop start items))
     ∙ ap (λ k. drop count (take k (drop start items))) m
 
--- n bytes are written behind the part
+-- n bytes are written after the part
 pub window_grown : (items into behind : List ℕ) (start end n : ℕ) → start ≤ end → end ≤ length items → n ≤ length into
     → take (end + n - start) (drop start (take end items ++ (into ++ behind))) ≡ take (end - start) (drop start items) ++ take n into
 window_grown items into behind start end n low high few =
@@ -27,7 +27,7 @@ window_grown items into behind start end n low high few =
     ap (take (end + n - start)) (a ∙ ap (λ xs. xs ++ (into ++ behind)) b) ∙ ap (λ k. take k (front ++ (into ++ behind))) e
     ∙ take-append-add front (into ++ behind) n ∙ ap (λ xs. front ++ xs) (take-append-le n into behind few)
 
--- the part is moved, and n bytes are written behind it
+-- the part is moved, and n bytes are written after it
 pub window_read : (old mid new into part : List ℕ) (start end at up n : ℕ) → take (end - start) (drop start old) ≡ part → take (end - start) (drop at mid) ≡ take (end - start) (drop start old)
     → at ≤ start → start ≤ end → up ≡ end - (start - at) → up ≤ length mid → new ≡ take up mid ++ into → n ≤ length into
     → take (up + n - at) (drop at new) ≡ part ++ take n into
@@ -37,7 +37,7 @@ window_read old mid new into part start end at up n seen same low high is room w
     ap (λ xs. take (up + n - at) (drop at xs)) w ∙ window_grown mid into [] at up n (omega arith) room few
     ∙ ap (λ xs. xs ++ take n into) (ap (λ k. take k (drop at mid)) e ∙ same ∙ seen)
 
--- the part is moved, and nothing is written behind it
+-- the part is moved, and nothing is written after it
 pub window_kept : (old mid new into part : List ℕ) (start end at up : ℕ) → take (end - start) (drop start old) ≡ part → take (end - start) (drop at mid) ≡ take (end - start) (drop start old)
     → at ≤ start → start ≤ end → up ≡ end - (start - at) → up ≤ length mid → new ≡ take up mid ++ into
     → take (up - at) (drop at new) ≡ part
@@ -59,22 +59,22 @@ Pulls-taken None after n into old new h e = (take n into, e, h)
 Pulls-taken (Some left) after n into old new h e =
     (take n into, e, (h.0, sym (take-append-drop n left) ∙ ap (λ xs. take n left ++ xs) (sym h.2.rest) ∙ ap (λ xs. xs ++ h.0) (sym h.2.taken), h.1))
 
-pub Gives-none : (before after : Option (List ℕ)) → after ≡ before → Gives before after []
-Gives-none None after h = h
-Gives-none (Some left) after h = (left, refl, h)
+pub GivesBytes-none : (before after : Option (List ℕ)) → after ≡ before → GivesBytes before after []
+GivesBytes-none None after h = h
+GivesBytes-none (Some left) after h = (left, refl, h)
 
-pub Gives-more : (a b c : Option (List ℕ)) (more next : List ℕ) → Gives a b more → Gives b c next → Gives a c (more ++ next)
-Gives-more None b c more next h k = subst (λ (o : Option (List ℕ)). Gives o c next) h k
-Gives-more (Some left) b c more next h k =
-    let t : Gives (Some h.0) c next = subst (λ (o : Option (List ℕ)). Gives o c next) h.2 k in
+pub GivesBytes-more : (a b c : Option (List ℕ)) (more next : List ℕ) → GivesBytes a b more → GivesBytes b c next → GivesBytes a c (more ++ next)
+GivesBytes-more None b c more next h k = subst (λ (o : Option (List ℕ)). GivesBytes o c next) h k
+GivesBytes-more (Some left) b c more next h k =
+    let t : GivesBytes (Some h.0) c next = subst (λ (o : Option (List ℕ)). GivesBytes o c next) h.2 k in
     (t.0, h.1 ∙ ap (λ xs. more ++ xs) t.1 ∙ sym (append_assoc more next t.0), t.2)
 
 pub Pulls-none : (before after : Option (List ℕ)) (old new : List ℕ) → after ≡ before → new ≡ old → Pulls before after old new
-Pulls-none before after old new h e = ([], e ∙ sym (append-nil old), Gives-none before after h)
+Pulls-none before after old new h e = ([], e ∙ sym (append-nil old), GivesBytes-none before after h)
 
 pub Pulls-more : (a b c : Option (List ℕ)) (old mid new : List ℕ) → Pulls a b old mid → Pulls b c mid new → Pulls a c old new
 Pulls-more a b c old mid new h k =
-    (h.0 ++ k.0, k.1 ∙ ap (λ xs. xs ++ k.0) h.1 ∙ append_assoc old h.0 k.0, Gives-more a b c h.0 k.0 h.2 k.2)
+    (h.0 ++ k.0, k.1 ∙ ap (λ xs. xs ++ k.0) h.1 ∙ append_assoc old h.0 k.0, GivesBytes-more a b c h.0 k.0 h.2 k.2)
 
 -- what stood before stands at the front
 pub Pulls-front : (before after : Option (List ℕ)) (old new : List ℕ) → Pulls before after old new → take (length old) new ≡ old

@@ -23,7 +23,7 @@ kept done = filter (λ line. not (is_skipped line)) done
 abbrev pub weight_of : List (List ℕ) → ℕ
 weight_of done = sum_by line_weight done
 
--- what a reader holds: the bytes behind the last line that it found, that line, and whether the
+-- what a reader holds: the bytes after the last line that it found, that line, and whether the
 -- source came to its end
 pub record Reading : Type 0 where
   pub rest : List ℕ
@@ -39,35 +39,35 @@ pub record HasRead (reader : Reading) (given left : List ℕ) (done : List (List
   pub whole : reader.at_end ≡ false → ended_part first ≡ first
   pub last : reader.at_end ≡ true → (reader.rest ≡ []) × (left ≡ [])
 
--- a source gave these bytes, where it is told what is left
-abbrev pub Gives : Option (List ℕ) → Option (List ℕ) → (more : List ℕ) → Type 0
-Gives before after more =
+-- a source gave these bytes, where what is left is known
+abbrev pub GivesBytes : Option (List ℕ) → Option (List ℕ) → (more : List ℕ) → Type 0
+GivesBytes before after more =
     MatchOption before (after ≡ None) (λ left. (rest : List ℕ) × (left ≡ more ++ rest)
     × (after ≡ Some rest))
 
 -- what a reader holds grew by bytes that a source gave
 abbrev pub Pulls : Option (List ℕ) → Option (List ℕ) → (old new : List ℕ) → Type 0
-Pulls before after old new = (more : List ℕ) × (new ≡ old ++ more) × Gives before after more
+Pulls before after old new = (more : List ℕ) × (new ≡ old ++ more) × GivesBytes before after more
 
--- the next line behind those done. A line of 2^32 lines and more need not be read to its end
-abbrev pub Finds : LineKind → Reading → (given left : List ℕ) → List (List ℕ) → Type 0
-Finds Text reader given left done =
+-- the next line after those done. A line of 2^32 lines and more need not be read to its end
+abbrev pub FindsNextLine : LineKind → Reading → (given left : List ℕ) → List (List ℕ) → Type 0
+FindsNextLine Text reader given left done =
     (length reader.text ≤ 8192) × HasRead reader given left (done ++ reader.text ∷ [])
-Finds (TooLong weight) reader given left done =
+FindsNextLine (TooLong weight) reader given left done =
     (line : List ℕ) × (8192 < length line) × (weight ≡ min (line_weight line) (2 ^ 32))
     × ((more : List (List ℕ)) × (lines (given ++ left) ≡ (done ++ line ∷ []) ++ more))
     × (weight < 2 ^ 32 → HasRead reader given left (done ++ line ∷ []))
-Finds End reader given left done =
+FindsNextLine End reader given left done =
     (left ≡ []) × (lines given ≡ done) × HasRead reader given left done
 
--- one call of a reader, by what was told to be left before it and after it: where it fails, all
+-- one call of a reader, by what was known to be left before it and after it: where it fails, all
 -- lines that end in the bytes given are done
 abbrev pub Advances : Option (List ℕ) → Option (List ℕ) → (old new : Reading)
     → Result LineKind Failed → Type 0
 Advances before after old new result =
     (given left : List ℕ) (done : List (List ℕ)) → before ≡ Some left → HasRead old given left done
     → (more : List ℕ) × (rest : List ℕ) × (left ≡ more ++ rest) × (after ≡ Some rest)
-    × MatchResult result (λ kind. Finds kind new (given ++ more) rest done)
+    × MatchResult result (λ kind. FindsNextLine kind new (given ++ more) rest done)
     (λ _. lines (ended_part (given ++ more)) ≡ done)
 
 -- Steps inside of a reader
@@ -77,10 +77,10 @@ abbrev pub HasNoNewline : List ℕ → Type 0
 HasNoNewline bytes = All (λ b. (b == 10) ≡ false) bytes
 
 -- the first LF stands at a place, or there is none
-abbrev pub IsScanned : List ℕ → Scanned → Type 0
-IsScanned bytes (Newline place) =
+abbrev pub IsNewlineScanned : List ℕ → Scanned → Type 0
+IsNewlineScanned bytes (Newline place) =
     (place < length bytes) × HasNoNewline (take place bytes) × (slice_index bytes place ≡ 10)
-IsScanned bytes _ = HasNoNewline bytes
+IsNewlineScanned bytes _ = HasNoNewline bytes
 
 -- bytes without an LF, so many of them, were pulled and dropped before those that are held now,
 -- which do not begin with one
@@ -93,8 +93,8 @@ Drops before after old count new =
 
 -- bytes were pulled, and there is no LF in those that are held nor in those that were dropped
 -- before them
-abbrev pub Stays : Option (List ℕ) → Option (List ℕ) → (old new : List ℕ) → Type 0
-Stays before after old new =
+abbrev pub PullsNoNewline : Option (List ℕ) → Option (List ℕ) → (old new : List ℕ) → Type 0
+PullsNoNewline before after old new =
     (dropped : List ℕ) × HasNoNewline (dropped ++ new) × Pulls before after old (dropped ++ new)
 
 -- what a line of this length is
@@ -109,13 +109,13 @@ abbrev pub IsLastKind : ℕ → LineKind → Type 0
 IsLastKind length kind = ((length ≡ 0) × (kind ≡ End)) ⊎ ((0 < length) × IsKind length kind)
 
 -- what is found in the bytes in front, where so many of the line were dropped before them
-abbrev pub IsFound : List ℕ → ℕ → Scanned → Found → Type 0
-IsFound bytes dropped (Newline place) found =
+abbrev pub IsLineFound : List ℕ → ℕ → Scanned → Found → Type 0
+IsLineFound bytes dropped (Newline place) found =
     (take found.text bytes ≡ strip_carriage_return (take place bytes)) × (found.text ≤ place)
     × (found.taken ≡ place + 1) × (found.at_end ≡ false)
     × IsKind (dropped + found.text) found.kind
-IsFound bytes dropped AtEnd found =
+IsLineFound bytes dropped AtEnd found =
     (found.text ≡ length bytes) × (found.taken ≡ length bytes) × (found.at_end ≡ true)
     × IsLastKind (dropped + found.text) found.kind
-IsFound bytes dropped Unended found =
+IsLineFound bytes dropped Unended found =
     (found.text ≡ 0) × (found.taken ≡ 0) × (found.at_end ≡ false) × (found.kind ≡ TooLong (2 ^ 32))

@@ -3,7 +3,7 @@ ghost use Rattle.std.specs.Prelude.{◌≡◌, ◌⊎◌, ℕ, ◌+◌, ◌-◌,
 ghost use Rattle.std.specs.List.{position};
 ghost use Rattle.std.specs.Str.Lines.{strip_carriage_return};
 ghost use Rattle.mdb_model.specs.Causes.{HasCause};
-ghost use Rattle.script_lines.specs.Reading.{Reading, HasRead, Advances, Pulls, IsScanned, HasNoNewline, Drops, Stays, IsKind, IsLastKind, IsFound};
+ghost use Rattle.script_lines.specs.Reading.{Reading, HasRead, Advances, Pulls, IsNewlineScanned, HasNoNewline, Drops, PullsNoNewline, IsKind, IsLastKind, IsLineFound};
 
 use crate::window::Window;
 use mdb_host::Source;
@@ -39,7 +39,7 @@ enum Scanned {
     Unended,
 }
 
-// What stands ahead, behind so many bytes of a line that were dropped.
+// What stands ahead, after so many bytes of a line that were dropped.
 #[derive(Clone, Copy)]
 struct Ahead {
     dropped: u64,
@@ -134,9 +134,9 @@ impl LineReader {
 fn look_ahead<S: Source>(window: &mut Window, source: &mut S) -> Result<Ahead, Failed>
     ensures drops { IfOk result (λ a. Drops (S.left source.old) (S.left source.new) window.old
         a.dropped window.new) }
-    ensures failed { OnErr result (Stays (S.left source.old) (S.left source.new) window.old
+    ensures failed { OnErr result (PullsNoNewline (S.left source.old) (S.left source.new) window.old
         window.new) }
-    ensures scanned { IfOk result (λ a. IsScanned window.new a.scanned) }
+    ensures scanned { IfOk result (λ a. IsNewlineScanned window.new a.scanned) }
     ensures end { IfOk result (λ a. a.scanned ≡ Scanned.AtEnd
         → IfSome (S.left source.new) (λ left. left ≡ [])) }
     ensures endless { IfOk result (λ a. a.scanned ≡ Scanned.Unended → 2 ^ 45 ≤ a.dropped) }
@@ -175,7 +175,7 @@ fn shorten(window: &mut Window) -> u64
 // its CR.
 fn scan<S: Source>(window: &mut Window, source: &mut S) -> Result<Scanned, Failed>
     ensures pulls { Pulls (S.left source.old) (S.left source.new) window.old window.new }
-    ensures scanned { IfOk result (λ s. IsScanned window.new s) }
+    ensures scanned { IfOk result (λ s. IsNewlineScanned window.new s) }
     ensures failed { OnErr result (HasNoNewline window.new) }
     ensures end { IfOk result (λ s. s ≡ Scanned.AtEnd
         → IfSome (S.left source.new) (λ left. left ≡ [])) }
@@ -202,10 +202,10 @@ fn scan<S: Source>(window: &mut Window, source: &mut S) -> Result<Scanned, Faile
 
 // What the line is whose end stands ahead.
 fn find(bytes: &[u8], dropped: u64, scanned: Scanned) -> Found
-    requires scanned { IsScanned bytes.now scanned }
+    requires scanned { IsNewlineScanned bytes.now scanned }
     requires few { dropped ≤ 2 ^ 46 }
     requires short { length bytes.now ≤ 2 ^ 46 }
-    ensures { IsFound bytes.now dropped scanned result }
+    ensures { IsLineFound bytes.now dropped scanned result }
 {
     match scanned {
         Scanned::Newline(place) => {

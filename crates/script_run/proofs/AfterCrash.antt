@@ -8,11 +8,11 @@ use Rattle.mdb_model.specs.declared.status.Status.TheVariants.{Done}
 use Rattle.mdb_model.specs.Headline.{CanStart, RepliesAreSaid}
 use Rattle.mdb_model.specs.Images.{Image}
 use Rattle.mdb_model.specs.Worlds.{World}
-use Rattle.creation.specs.Standing.{Stands}
+use Rattle.standing.specs.Standing.{Stands}
 use Rattle.db_kernel.specs.Starting.{own_age}
-use Rattle.db_kernel.specs.Working.{no_pages}
+use Rattle.session_rows.specs.Serving.{no_pages}
 use Rattle.script_run.specs.Again.{RunsAgain, new_world}
-use Rattle.script_run.specs.Along.{Kept}
+use Rattle.script_run.specs.Along.{KeepsSerialRun}
 use Rattle.script_run.specs.Calls.{RunPromise, NewPromise}
 
 -- a call may start where each image that a crash may leave stands for one world
@@ -27,7 +27,7 @@ module _ (d0 d1 d2 e0 e1 : Disk) (f1 f2 g0 g1 : ℕ) (told1 told2 told3 told4 : 
     (ran : RunPromise d1 d2 f1 f2 first told1 told2) (at : ℕ) (from : d1.now ≤ at) (upto : at ≤ d2.now)
     (image : Image) (left : d2.may_leave at image) (fresh : IsFresh e0 image) (starts_again : StartsOn e0)
     (ran_again : RunPromise e0 e1 g0 g1 second told3 told4) (keeps : Keeps e0 e1) where
-  one : Kept no_pages Stands d1 d2 f1 f2 ((new_world birth log_pages data_pages, own_age (new_world birth log_pages data_pages)) ∷ []) first told1 told2
+  one : KeepsSerialRun no_pages Stands d1 d2 f1 f2 ((new_world birth log_pages data_pages, own_age (new_world birth log_pages data_pages)) ∷ []) first told1 told2
   one = ran ((new_world birth log_pages data_pages, own_age (new_world birth log_pages data_pages)) ∷ [])
       (starts (new_world birth log_pages data_pages) made.0)
 

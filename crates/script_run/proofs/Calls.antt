@@ -1,12 +1,12 @@
 -- What a call keeps.
 --     created_with      a new database has the numbers that are asked for
 --     memory_keeps      a run for which memory ran out
-use Rattle.std.proofs.Common.{◌≡◌, sym, subst, ℕ, List, Option, Some}
+use Rattle.std.proofs.Common.{◌≡◌, subst, ℕ, List, Option, Some}
 use Rattle.mdb_model.specs.declared.status.Status.TheVariants.{Memory}
 use Rattle.mdb_model.specs.Script.{Asked as Request, Create}
 use Rattle.mdb_host.specs.Disk.{Disk}
-use Rattle.creation.specs.Standing.{Stands}
-use Rattle.db_kernel.specs.Working.{no_pages}
+use Rattle.standing.specs.Standing.{Stands}
+use Rattle.session_rows.specs.Serving.{no_pages}
 use Rattle.script_run.specs.Calls.{RunPromise}
 use Rattle.script_run.proofs.Progressing.{ends_memory}
 use Rattle.script_run.proofs.Turns.{start_serial, start_stand}

@@ -2,7 +2,7 @@
 --     caused_on, caused_since      the causes of a line as time goes on, and from an earlier instant
 --     caused_push      those of one line more
 --     LineCauses, line_causes      what a line has of causes, before its reply is said and after
-use Rattle.std.proofs.Common.{◌≡◌, refl, sym, subst, ap, ◌∙◌, ℕ, ◌+◌, ◌≤◌, Bool, true, false, List, [], ◌∷◌, ◌++◌, Some, None, All, arith, append_assoc}
+use Rattle.std.proofs.Common.{◌≡◌, sym, subst, ◌∙◌, ℕ, ◌≤◌, true, false, List, [], ◌∷◌, ◌++◌, arith, append_assoc}
 use Rattle.std.specs.List.{concat}
 use Rattle.std.proofs.lemmas.List.{append-nil}
 use Rattle.mdb_model.specs.declared.script.Refusal.TheVariants.{DeviceFailed, NumberEnd}

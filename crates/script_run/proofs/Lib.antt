@@ -9,3 +9,4 @@ pub mod Progressing
 pub mod Answering
 pub mod Calls
 pub mod AfterCrash
+pub mod ScanRows

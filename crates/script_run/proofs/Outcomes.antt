@@ -25,16 +25,17 @@ use Rattle.mdb_model.specs.Script.{Reads, is_skipped}
 use Rattle.mdb_model.specs.Text.{text_of}
 use Rattle.mdb_model.specs.Worlds.{World}
 use Rattle.mdb_host.specs.Disk.{Disk}
-use Rattle.creation.specs.Standing.{Stands}
+use Rattle.standing.specs.Standing.{Stands}
 use Rattle.db_kernel.specs.declared.database.Access.{Access}
 use Rattle.db_kernel.specs.declared.database.Access.TheVariants.{Admin, Online}
 use Rattle.db_kernel.specs.declared.database.Database.{Database}
 use Rattle.db_kernel.specs.Damages.{EachLeft, IsInReach, IsOpener, are_past_end, past_end_in}
-use Rattle.db_kernel.specs.Kept.{Fits, IsIn, made_of, answer_of}
+use Rattle.db_kernel.specs.Kept.{FitsWorlds, IsIn, creation_of, answer_of}
 use Rattle.db_kernel.specs.Stretch.{Completes}
-use Rattle.db_kernel.specs.Working.{no_pages, working, in_admin}
+use Rattle.session_rows.specs.Serving.{no_pages}
+use Rattle.db_kernel.specs.Working.{working, in_admin}
 use Rattle.script_run.specs.Along.{Taken}
-use Rattle.script_run.specs.Progress.{DoesLine, ReadsAs, Turned}
+use Rattle.script_run.specs.Progress.{DoesLine, ReadsAs, HandlesLine}
 use Rattle.script_run.specs.Speaking.{Speaks}
 use Rattle.script_run.proofs.Caused.{LineCauses}
 use Rattle.script_run.proofs.Takings.{line_taken, line_taken_whole}
@@ -76,16 +77,16 @@ pub refused_same : (a b : Refusal) → Refused a ≡ Refused b → a ≡ b
 unfolding refusal_in
 refused_same a b is = ap refusal_in is
 
-pub does_line : (d0 d1 d2 : Disk) (f0 f1 f2 : ℕ) (ws : List World) (line : Line) (answer : Answer) (after : Option Database) → Completes no_pages Stands d0 d1 ws line answer (Fits after)
+pub does_line : (d0 d1 d2 : Disk) (f0 f1 f2 : ℕ) (ws : List World) (line : Line) (answer : Answer) (after : Option Database) → Completes no_pages Stands d0 d1 ws line answer (FitsWorlds after)
     → LineCauses d1 f0 f1 ws line answer.reply → f2 ≡ f1 → Speaks d1 d2 (text_of answer) → (r : Result (Unit {0}) Fault) → OnOk r (d2.said d2.now ≡ d1.said d1.now ++ text_of answer)
     → DoesLine d0 d2 f0 f2 ws line after r
 does_line d0 d1 d2 f0 f1 f2 ws line answer after done causes same speaks (Ok unit) whole =
-    line_taken_whole no_pages Stands d0 d1 d2 f0 f1 f2 ws line answer (Fits after) done causes (omega (arith, same)) (text_of answer) refl speaks whole
+    line_taken_whole no_pages Stands d0 d1 d2 f0 f1 f2 ws line answer (FitsWorlds after) done causes (omega (arith, same)) (text_of answer) refl speaks whole
 does_line d0 d1 d2 f0 f1 f2 ws line answer after done causes same speaks (Err fault) whole =
-    line_taken no_pages Stands d0 d1 d2 f0 f1 f2 ws line answer (Fits after) done causes (omega (arith, same)) (text_of answer) refl speaks
+    line_taken no_pages Stands d0 d1 d2 f0 f1 f2 ws line answer (FitsWorlds after) done causes (omega (arith, same)) (text_of answer) refl speaks
 
 pub turned_err : (old new : Disk) (before now : ℕ) (ws : List World) (IsText : List ℕ → Type 0) (after : Option Database) (r : Result Bool Fault) → IsErr r
-    → (line : Line) × ReadsAs IsText line × Taken no_pages Stands old new before now ws line → Turned old new before now ws IsText after r
+    → (line : Line) × ReadsAs IsText line × Taken no_pages Stands old new before now ws line → HandlesLine old new before now ws IsText after r
 turned_err old new before now ws IsText after (Ok answered) is taken = cc
 turned_err old new before now ws IsText after (Err fault) is taken = taken
 
@@ -101,16 +102,16 @@ one_off : (ws : List World) (w : World) → ws ≡ w ∷ [] → (w.state ≡ Off
 one_off ws w is on all = on (All-head (λ v. v.state ≡ Offline) w [] (subst (λ (vs : List World). All (λ v. v.state ≡ Offline) vs) is all))
 
 in_off : (access : Access) (database : Database) (ws : List World) → IsIn access database ws → All (λ v. v.state ≡ Offline) ws → ⊥
-in_off Admin database ws at all = one_off ws (in_admin (made_of database) at.commits) at.is (λ same. cc) all
-in_off Online database ws at all = one_off ws (working (made_of database) at.commits at.sessions) at.is (λ same. cc) all
+in_off Admin database ws at all = one_off ws (in_admin (creation_of database) at.commits) at.is (λ same. cc) all
+in_off Online database ws at all = one_off ws (working (creation_of database) at.commits at.sessions) at.is (λ same. cc) all
 
 -- a kernel whose worlds are all off is off
-pub kernel_is_off : (database : Option Database) (ws : List World) → Fits database ws → All (λ v. v.state ≡ Offline) ws → database ≡ None
+pub kernel_is_off : (database : Option Database) (ws : List World) → FitsWorlds database ws → All (λ v. v.state ≡ Offline) ws → database ≡ None
 kernel_is_off None ws fit all = refl
 kernel_is_off (Some database) ws fit all = absurd (in_off database.access database ws fit.at all)
 
 -- the lines that read numbers and are built open a database
-opener_of : (database : Option Database) (ws : List World) → Fits database ws → (command : Command) → ReadsNumbers ws (Some command) → (database ≡ None) × IsOpener command
+opener_of : (database : Option Database) (ws : List World) → FitsWorlds database ws → (command : Command) → ReadsNumbers ws (Some command) → (database ≡ None) × IsOpener command
 opener_of database ws fit DbAdmin reads = (kernel_is_off database ws fit reads, tt)
 opener_of database ws fit DbOnline reads = (kernel_is_off database ws fit reads, tt)
 opener_of database ws fit (Recover media log until) reads = absurd cc
@@ -142,7 +143,7 @@ opener_of database ws fit CheckData reads = absurd reads
 reach_ends : (line : Command) (image : Image) → IsInReach image → past_end_in line image ≡ false
 reach_ends line image reach = (λ i. are_past_end (reach.has_restart i) (reach.has_info i)) ∙ reach.low
 
-pub command_causes : (disk : Disk) (f0 f1 : ℕ) (ws : List World) (database : Option Database) → Fits database ws → (command : Command) (reply : Reply)
+pub command_causes : (disk : Disk) (f0 f1 : ℕ) (ws : List World) (database : Option Database) → FitsWorlds database ws → (command : Command) (reply : Reply)
     → f0 ≤ f1 → (reply ≡ Refused DeviceFailed → Rose f0 f1)
     → (reply ≡ Refused NumberEnd → EachLeft disk (λ image. past_end_in command image ≡ true))
     → (database ≡ None → IsOpener command → IsOpenReply reply → EachLeft disk IsInReach)

@@ -15,7 +15,7 @@ use Rattle.mdb_model.specs.Text.{line_of, item_words, reply_words}
 use Rattle.mdb_host.specs.Disk.{Disk}
 use Rattle.mdb_bytes.specs.Held.{next_row, is_before}
 use Rattle.mdb_bytes.proofs.Scanning.{rows_behind, ScannedTo, scan_first, scan_step, scan_end, behind_front, none_behind}
-use Rattle.db_kernel.specs.Sessions.{HasKeys}
+use Rattle.session_rows.specs.Serving.{HasKeys}
 use Rattle.script_run.specs.Speaking.{Speaks, row_text, IsNextKey, rows_left}
 use Rattle.script_run.proofs.Speaking.{speaks_none, speaks_part, speaks_on}
 

@@ -1,5 +1,5 @@
 -- The turns of the loop over the lines, and the whole call.
-use Rattle.std.proofs.Common.{◌≡◌, refl, sym, subst, ap, ◌∙◌, ℕ, zero, suc, ◌+◌, ◌-◌, ◌≤◌, List, [], ◌∷◌, ◌++◌, Option, None, Contains, All, length, take, map, arith, append_assoc}
+use Rattle.std.proofs.Common.{◌≡◌, refl, sym, subst, ap, ◌∙◌, ℕ, zero, suc, ◌+◌, ◌-◌, List, [], ◌∷◌, ◌++◌, Option, None, Contains, All, length, take, map, arith, append_assoc}
 use Rattle.std.specs.List.{concat}
 use Rattle.std.specs.FinMap.{empty}
 use Rattle.std.proofs.lemmas.List.{append-nil, length-append}
@@ -19,8 +19,8 @@ use Rattle.mdb_model.proofs.SerialLaw.{serial}
 use Rattle.mdb_model.specs.Agreement.{Ages, IsSound, Agrees}
 use Rattle.mdb_model.specs.Headline.{IsPrefix, CrashesStand, CanStart, Instant, IsCaused, AreCaused, ScriptIsRead, RepliesAreSaid, texts_of, lines_of}
 use Rattle.db_kernel.specs.Damages.{past_end_in}
-use Rattle.db_kernel.specs.Stretch.{Stand}
-use Rattle.script_run.specs.Along.{instant, Passes, Taken, TakenWhole, Served, Kept}
+use Rattle.db_kernel.specs.Stretch.{LeavesOnly}
+use Rattle.script_run.specs.Along.{instant, Passes, Taken, TakenWhole, Served, KeepsSerialRun}
 use Rattle.script_run.proofs.Caused.{caused_push}
 use Rattle.script_run.proofs.Join.{join, join_said, begins, said_all, said_then, lines-append, last-append}
 
@@ -32,7 +32,7 @@ contains_map f (y ∷ xs) x (suc k, inside, is) =
     (suc rest.0, omega (arith, rest.1), rest.2)
 
 module _ (reading : PageReading) (stands : Image → World → Type 0) where
-  pub served_none : (disk : Disk) (f : ℕ) (ws : List World) (fits : List World → Type 0) → fits ws → Stand reading stands disk ws → Served reading stands disk disk f f ws [] fits
+  pub served_none : (disk : Disk) (f : ℕ) (ws : List World) (fits : List World → Type 0) → fits ws → LeavesOnly reading stands disk ws → Served reading stands disk disk f f ws [] fits
   served_none disk f ws fits fit stand = record {
     run = [];
     lines_are = refl;
@@ -61,7 +61,7 @@ module _ (reading : PageReading) (stands : Image → World → Type 0) where
               ∙ (λ k. d0.said d0.now ++ (concat (texts_of so_far.run) ++ sym (append-nil (text_of next.entry.answer)) k))
               ∙ (λ k. d0.said d0.now ++ sym (said_all so_far.run (next.entry ∷ [])) k);
           fit = subst after (sym last) next.fit;
-          stand = subst (λ (vs : List World). Stand reading stands d2 vs) (sym last) next.stand;
+          stand = subst (λ (vs : List World). LeavesOnly reading stands d2 vs) (sym last) next.stand;
         }
 
   -- The whole call
@@ -86,7 +86,7 @@ module _ (reading : PageReading) (stands : Image → World → Type 0) where
     pub promise_whole : (status : Status) (left_before left : Option (List ℕ)) (lines : List Line) (fits : List World → Type 0)
         → ((before said : List ℕ) (run : List TakenLine) → said ≡ before ++ concat (texts_of run) → RepliesAreSaid status before said run)
         → ((run : List TakenLine) → lines_of run ≡ lines → ScriptIsRead status left_before left run)
-        → Served reading stands d0 dn f0 fn worlds lines fits → Kept reading stands d0 dn f0 fn old status left_before left
+        → Served reading stands d0 dn f0 fn worlds lines fits → KeepsSerialRun reading stands d0 dn f0 fn old status left_before left
     promise_whole status left_before left lines fits said_so read_so served = record {
       kept = record {
         run = served.run;
@@ -127,7 +127,7 @@ module _ (reading : PageReading) (stands : Image → World → Type 0) where
           (next.part, λ k. whole_texts k ++ next.part)
 
       pub promise_cut : (left_before left : Option (List ℕ)) → ((run : List TakenLine) → lines_of run ≡ lines ++ line ∷ [] → ScriptIsRead SayFault left_before left run)
-          → Kept reading stands d0 dn f0 fn old SayFault left_before left
+          → KeepsSerialRun reading stands d0 dn f0 fn old SayFault left_before left
       promise_cut left_before left read_so = record {
         kept = record {
           run = so_far.run ++ next.entry ∷ [];
@@ -159,7 +159,7 @@ module _ (reading : PageReading) (stands : Image → World → Type 0) where
         offline_not : Offline ≡ Online → ⊥
         offline_not same = cc
 
-    pub start_stand : Stand reading stands d0 (map (λ e. e.0) old)
+    pub start_stand : LeavesOnly reading stands d0 (map (λ e. e.0) old)
     start_stand image left =
         let e = can.images image left in
         let rest = at_rest e.0 (All-contains CanBe old e.0 can.worlds e.1) in

@@ -1,7 +1,7 @@
 -- What a crash of a call leaves, and what the next call makes of it.
 --     RunsAgain      two runs of the machine, the second one from a world that a crash of the first
 --         one may leave
-use Rattle.std.specs.Prelude.{◌≡◌, ℕ, ◌*◌, ◌-◌, List, [], ◌∷◌, Option, Some, None, length, sum}
+use Rattle.std.specs.Prelude.{ℕ, ◌*◌, ◌-◌, List, [], ◌∷◌, sum}
 use Rattle.mdb_model.specs.declared.status.Status.{Status}
 use Rattle.mdb_model.specs.Headline.{HasSaid, IsPossible, RepliesAreSaid}
 use Rattle.mdb_model.specs.Images.{Image}
@@ -9,8 +9,8 @@ use Rattle.mdb_model.specs.Runs.{Run, TakenLine}
 use Rattle.mdb_model.specs.Serial.{IsSerial}
 use Rattle.mdb_model.specs.Worlds.{World, created}
 use Rattle.mdb_host.specs.Disk.{Disk}
-use Rattle.creation.specs.Standing.{Stands}
-use Rattle.db_kernel.specs.Working.{no_pages}
+use Rattle.standing.specs.Standing.{Stands}
+use Rattle.session_rows.specs.Serving.{no_pages}
 
 -- the world of a new database, as the words ask for it
 abbrev pub new_world : (birth log_pages : ℕ) → (data_pages : List ℕ) → World

@@ -6,7 +6,7 @@
 --     Taken, TakenWhole      one line was taken and its reply was said, perhaps not to its end; to
 --         its end
 --     Served      lines were taken in order, and all replies are said
---     Kept      what a whole call keeps
+--     KeepsSerialRun      what a whole call keeps
 use Rattle.std.specs.Prelude.{◌≡◌, ℕ, ◌≤◌, List, [], ◌∷◌, ◌++◌, Option, length}
 use Rattle.std.specs.List.{concat}
 use Rattle.mdb_model.specs.Images.{Image}
@@ -20,7 +20,7 @@ use Rattle.mdb_model.specs.Agreement.{Ages}
 use Rattle.mdb_model.specs.declared.status.Status.{Status}
 use Rattle.mdb_host.specs.Disk.{Disk, Keeps}
 use Rattle.db_kernel.specs.Damages.{past_end_in}
-use Rattle.db_kernel.specs.Stretch.{Stand}
+use Rattle.db_kernel.specs.Stretch.{LeavesOnly}
 
 -- a moment, and how many calls on devices had failed by then
 abbrev pub instant : (clock faults : ℕ) → Instant
@@ -67,7 +67,7 @@ module _ (reading : PageReading) (stands : Image → World → Type 0) where
     pub passes : Passes old new ws (entry ∷ [])
     pub said : new.said new.now ≡ old.said old.now ++ text_of entry.answer
     pub fit : fits entry.worlds
-    pub stand : Stand reading stands new entry.worlds
+    pub stand : LeavesOnly reading stands new entry.worlds
 
   pub record Served (old new : Disk) (before now : ℕ) (ws : List World) (lines : List Line)
       (fits : List World → Type 0) : Type 0 where
@@ -80,11 +80,11 @@ module _ (reading : PageReading) (stands : Image → World → Type 0) where
     pub passes : Passes old new ws run
     pub said : new.said new.now ≡ old.said old.now ++ concat (texts_of run)
     pub fit : fits (last_worlds reading ws run)
-    pub stand : Stand reading stands new (last_worlds reading ws run)
+    pub stand : LeavesOnly reading stands new (last_worlds reading ws run)
 
   -- what a call keeps: its run, in which each transaction was answered as with nobody else
-  pub record Kept (old new : Disk) (before now : ℕ) (from : List (World × Ages)) (status : Status)
-      (left_before left : Option (List ℕ)) : Type 0 where
+  pub record KeepsSerialRun (old new : Disk) (before now : ℕ) (from : List (World × Ages))
+      (status : Status) (left_before left : Option (List ℕ)) : Type 0 where
     pub kept : KeepsRun reading new.said new.may_leave stands past_end_in status old.now new.now
         before now left_before left from
     pub serial : IsSerial kept.run

@@ -3,17 +3,18 @@
 --     EndsRun, EndsCreate      the statuses of each
 --     HasDevice      a device that a database may have is there
 --     touches_nothing      the statuses of a call that did nothing
-use Rattle.std.specs.Prelude.{◌≡◌, ℕ, ◌<◌, Bool, true, false, List, Option}
+use Rattle.std.specs.Prelude.{ℕ, ◌<◌, Bool, true, false, List, Option}
 use Rattle.mdb_model.specs.declared.status.Status.{Status}
 use Rattle.mdb_model.specs.declared.status.Status.TheVariants.{Done, Usage, Memory, DeviceFault, Exists}
 use Rattle.mdb_model.specs.Agreement.{Ages}
 use Rattle.mdb_model.specs.Headline.{CanStart, CreatePromise}
 use Rattle.mdb_model.specs.Worlds.{World}
 use Rattle.mdb_host.specs.Disk.{Disk, IsThere}
-use Rattle.creation.specs.Devices.{device_count, device_at}
-use Rattle.creation.specs.Standing.{Stands}
-use Rattle.db_kernel.specs.Working.{no_pages}
-use Rattle.script_run.specs.Along.{Kept}
+use Rattle.mdb_host.specs.Places.{device_at}
+use Rattle.creation.specs.Devices.{device_count}
+use Rattle.standing.specs.Standing.{Stands}
+use Rattle.session_rows.specs.Serving.{no_pages}
+use Rattle.script_run.specs.Along.{KeepsSerialRun}
 
 -- of each start, by what a crash at the entry may leave: the promise of a call. Of the source are
 -- given the bytes that it tells before and after, where it tells them
@@ -21,7 +22,7 @@ abbrev pub RunPromise : (old new : Disk) → (faults_before faults : ℕ) → St
     → (left_before left : Option (List ℕ)) → Type 0
 RunPromise old new faults_before faults status left_before left =
     (from : List (World × Ages)) → CanStart no_pages old.said old.may_leave Stands old.now from
-    → Kept no_pages Stands old new faults_before faults from status left_before left
+    → KeepsSerialRun no_pages Stands old new faults_before faults from status left_before left
 
 -- of a database of this birth, with volumes of so many pages
 abbrev pub NewPromise : (old new : Disk) → Status → (birth log_pages : ℕ) → (data_pages : List ℕ)

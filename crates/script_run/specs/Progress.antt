@@ -1,7 +1,7 @@
 -- How far the run of a script is.
 --     DoesLine      a line was done, and what answers it was said, or not to its end
---     ReadsAs, Turned      what a line reads as; the same of a line with its texts, which may be
---         skipped
+--     ReadsAs, HandlesLine      what a line reads as; the same of a line with its texts, which may
+--         be skipped
 --     IsLineText      a line that the reader found
 --     is_end, weight_in      whether no line is left; what the loop counts a line as
 --     HasReadLines, Progress      lines of the script are answered, and others are left
@@ -12,10 +12,10 @@ use Rattle.mdb_model.specs.Runs.{Line}
 use Rattle.mdb_model.specs.Script.{Reads, is_skipped}
 use Rattle.mdb_model.specs.Worlds.{World}
 use Rattle.mdb_host.specs.Disk.{Disk}
-use Rattle.creation.specs.Standing.{Stands}
+use Rattle.standing.specs.Standing.{Stands}
 use Rattle.db_kernel.specs.declared.database.Database.{Database}
-use Rattle.db_kernel.specs.Kept.{Fits}
-use Rattle.db_kernel.specs.Working.{no_pages}
+use Rattle.db_kernel.specs.Kept.{FitsWorlds}
+use Rattle.session_rows.specs.Serving.{no_pages}
 use Rattle.script_lines.specs.declared.lines.LineKind.{LineKind}
 use Rattle.script_lines.specs.declared.lines.LineKind.TheVariants.{Text, TooLong, End}
 use Rattle.script_run.specs.Along.{Taken, TakenWhole, Served}
@@ -25,7 +25,7 @@ use Rattle.script_lines.specs.Reading.{Reading, HasRead, kept, weight_of}
 abbrev pub DoesLine : (old new : Disk) → (before now : ℕ) → List World → Line
     → (after : Option Database) → Result (Unit {0}) Fault → Type 0
 DoesLine old new before now ws line after (Ok done) =
-    TakenWhole no_pages Stands old new before now ws line (Fits after)
+    TakenWhole no_pages Stands old new before now ws line (FitsWorlds after)
 DoesLine old new before now ws line after (Err fault) =
     Taken no_pages Stands old new before now ws line
 
@@ -34,14 +34,15 @@ abbrev pub ReadsAs : (List ℕ → Type 0) → Line → Type 0
 ReadsAs IsText line = (text : List ℕ) → IsText text → (is_skipped text ≡ false) × Reads text line
 
 -- a line with one of these texts is skipped; or it reads as a line of the machine, which was done
-abbrev pub Turned : (old new : Disk) → (before now : ℕ) → List World → (IsText : List ℕ → Type 0)
+abbrev pub HandlesLine : (old new : Disk) → (before now : ℕ) → List World
+    → (IsText : List ℕ → Type 0)
     → (after : Option Database) → Result Bool Fault → Type 0
-Turned old new before now ws IsText after (Ok true) =
+HandlesLine old new before now ws IsText after (Ok true) =
     (line : Line) × ReadsAs IsText line × TakenWhole no_pages Stands old new before now ws line
-    (Fits after)
-Turned old new before now ws IsText after (Ok false) =
+    (FitsWorlds after)
+HandlesLine old new before now ws IsText after (Ok false) =
     (text : List ℕ) → IsText text → is_skipped text ≡ true
-Turned old new before now ws IsText after (Err fault) =
+HandlesLine old new before now ws IsText after (Err fault) =
     (line : Line) × ReadsAs IsText line × Taken no_pages Stands old new before now ws line
 
 abbrev pub IsLineText : LineKind → (found text : List ℕ) → Type 0
@@ -75,6 +76,6 @@ pub record Progress (old now_is : Disk) (before now : ℕ) (ws : List World)
     (database : Option Database) (reader : Reading) (told_before told : Option (List ℕ)) (count : ℕ)
     : Type 0 where
   pub lines : List Line
-  pub served : Served no_pages Stands old now_is before now ws lines (Fits database)
+  pub served : Served no_pages Stands old now_is before now ws lines (FitsWorlds database)
   pub script : (bytes : List ℕ) → told_before ≡ Some bytes
       → HasReadLines bytes reader told count lines

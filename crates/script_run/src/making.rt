@@ -2,7 +2,8 @@
 ghost use Rattle.std.specs.Prelude.{◌≡◌, ◌≢◌, ℕ, ◌<◌, ◌⊎◌, None};
 ghost use Rattle.mdb_model.specs.Causes.{Rose};
 ghost use Rattle.mdb_host.specs.Disk.{Disk, IsThere, Keeps};
-ghost use Rattle.creation.specs.Devices.{device_count, device_at};
+ghost use Rattle.mdb_host.specs.Places.{device_at};
+ghost use Rattle.creation.specs.Devices.{device_count};
 ghost use Rattle.script_run.specs.Calls.{NewPromise};
 
 use call_words::Measures;

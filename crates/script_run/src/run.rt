@@ -7,12 +7,12 @@ ghost use Rattle.mdb_model.specs.Runs.{Line};
 ghost use Rattle.mdb_model.specs.Script.{is_in_range};
 ghost use Rattle.mdb_model.specs.Worlds.{World};
 ghost use Rattle.mdb_host.specs.Disk.{Disk, Keeps};
-ghost use Rattle.creation.specs.Standing.{Stands};
-ghost use Rattle.db_kernel.specs.Kept.{Ready, Meets, Fits};
-ghost use Rattle.db_kernel.specs.Stretch.{Stand, Completes};
-ghost use Rattle.db_kernel.specs.Working.{no_pages};
+ghost use Rattle.standing.specs.Standing.{Stands};
+ghost use Rattle.db_kernel.specs.Kept.{Ready, Meets, FitsWorlds};
+ghost use Rattle.db_kernel.specs.Stretch.{LeavesOnly, Completes};
+ghost use Rattle.session_rows.specs.Serving.{no_pages};
 ghost use Rattle.script_run.specs.Calls.{EndsRun, RunPromise};
-ghost use Rattle.script_run.specs.Progress.{DoesLine, Turned, IsLineText, is_end as no_line, weight_in};
+ghost use Rattle.script_run.specs.Progress.{DoesLine, HandlesLine, IsLineText, is_end as no_line, weight_in};
 
 use crate::saying::{say_reply, say_scan};
 use db_kernel::kernel::Kernel;
@@ -35,8 +35,8 @@ fn answer_command<H: Host>(
     ensures ready { Ready kernel.new.database }
     ensures meets { H.tells → Meets kernel.new.database (H.disk host.new).seen }
     ensures keeps { H.tells → Keeps (H.disk host.old) (H.disk host.new) }
-    ensures does { H.tells → (ws : List World) → Fits kernel.old.database ws
-        → Stand no_pages Stands (H.disk host.old) ws
+    ensures does { H.tells → (ws : List World) → FitsWorlds kernel.old.database ws
+        → LeavesOnly no_pages Stands (H.disk host.old) ws
         → DoesLine (H.disk host.old) (H.disk host.new) (H.faults host.old) (H.faults host.new) ws
         (Some command.now) kernel.new.database result }
     ensures later { H.faults host.old ≤ H.faults host.new }
@@ -61,7 +61,7 @@ fn refuse<H: Host>(kernel: &Kernel, host: &mut H, refusal: Refusal) -> Result<()
     ensures keeps { H.tells → Keeps (H.disk host.old) (H.disk host.new) }
     ensures does { H.tells → (ws : List World) (line : Line)
         → Completes no_pages Stands (H.disk host.old) (H.disk host.old) ws line (refused refusal)
-        (Fits kernel.now.database)
+        (FitsWorlds kernel.now.database)
         → DoesLine (H.disk host.old) (H.disk host.new) (H.faults host.old) (H.faults host.new) ws
         line kernel.now.database result }
     ensures faults { H.faults host.new ≡ H.faults host.old }
@@ -84,9 +84,9 @@ fn take_line<H: Host>(
     ensures keeps { H.tells → Keeps (H.disk host.old) (H.disk host.new) }
     ensures still { IfOk result (λ answered. answered ≡ false
         → (host.new ≡ host.old) × (kernel.new ≡ kernel.old)) }
-    ensures turned { H.tells → (ws : List World) → Fits kernel.old.database ws
-        → Stand no_pages Stands (H.disk host.old) ws
-        → Turned (H.disk host.old) (H.disk host.new) (H.faults host.old) (H.faults host.new) ws
+    ensures turned { H.tells → (ws : List World) → FitsWorlds kernel.old.database ws
+        → LeavesOnly no_pages Stands (H.disk host.old) ws
+        → HandlesLine (H.disk host.old) (H.disk host.new) (H.faults host.old) (H.faults host.new) ws
         (λ text. text ≡ line.now) kernel.new.database result }
     ensures later { H.faults host.old ≤ H.faults host.new }
     ensures say_cause { HasCause (H.say_faults host.old) (H.say_faults host.new) result }
@@ -106,9 +106,9 @@ fn refuse_line<H: Host>(kernel: &Kernel, host: &mut H) -> Result<bool, Failed>
     ensures meets { H.tells → Meets kernel.now.database (H.disk host.new).seen }
     ensures keeps { H.tells → Keeps (H.disk host.old) (H.disk host.new) }
     ensures answered { IfOk result (λ answered. answered ≡ false → ⊥) }
-    ensures turned { H.tells → (ws : List World) → Fits kernel.now.database ws
-        → Stand no_pages Stands (H.disk host.old) ws
-        → Turned (H.disk host.old) (H.disk host.new) (H.faults host.old) (H.faults host.new) ws
+    ensures turned { H.tells → (ws : List World) → FitsWorlds kernel.now.database ws
+        → LeavesOnly no_pages Stands (H.disk host.old) ws
+        → HandlesLine (H.disk host.old) (H.disk host.new) (H.faults host.old) (H.faults host.new) ws
         (λ text. 8192 < length text) kernel.now.database result }
     ensures faults { H.faults host.new ≡ H.faults host.old }
     ensures say_cause { HasCause (H.say_faults host.old) (H.say_faults host.new) result }
@@ -132,9 +132,9 @@ fn answer<H: Host>(
     ensures keeps { H.tells → Keeps (H.disk host.old) (H.disk host.new) }
     ensures still { IfOk result (λ answered. answered ≡ false
         → (host.new ≡ host.old) × (kernel.new ≡ kernel.old)) }
-    ensures turned { H.tells → (ws : List World) → Fits kernel.old.database ws
-        → Stand no_pages Stands (H.disk host.old) ws
-        → Turned (H.disk host.old) (H.disk host.new) (H.faults host.old) (H.faults host.new) ws
+    ensures turned { H.tells → (ws : List World) → FitsWorlds kernel.old.database ws
+        → LeavesOnly no_pages Stands (H.disk host.old) ws
+        → HandlesLine (H.disk host.old) (H.disk host.new) (H.faults host.old) (H.faults host.new) ws
         (IsLineText kind found.now) kernel.new.database result }
     ensures later { H.faults host.old ≤ H.faults host.new }
     ensures say_cause { HasCause (H.say_faults host.old) (H.say_faults host.new) result }

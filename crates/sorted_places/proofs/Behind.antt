@@ -8,6 +8,7 @@ use Rattle.std.specs.Ordering.{nat_cmp, ordering_then, ordering_reverse, MatchOr
 use Rattle.std.specs.Cmp.{ranks, tied_itself}
 use Rattle.std.specs.Cmp.Lexicographic.{slice_cmp, nat_list_cmp_total}
 use Rattle.std.specs.FinMap.{find}
+use Rattle.std.proofs.lemmas.List.{get_or_default}
 use Rattle.mdb_model.specs.Tables.{Place, place_cmp}
 use Rattle.mdb_bytes.specs.Fields.{rises}
 use Rattle.mdb_bytes.specs.Held.{is_before}
@@ -17,11 +18,6 @@ use Rattle.sorted_places.proofs.NextRow.{before-less, less-before, same-table}
 use Rattle.sorted_places.proofs.Places.{place_total}
 use Rattle.sorted_places.proofs.Sorted.{entry, find-at, find-gap, sorted-index, sorted_from_rises, turned}
 use Rattle.sorted_places.proofs.Tests.{lower-table}
-
-one_item : {A : Type 0} (xs : List A) (n : ℕ) (a b : A) → n < length xs → get_or xs n a ≡ get_or xs n b
-one_item [] n a b inside = absurd (omega (arith, inside))
-one_item (x ∷ xs) zero a b inside = refl
-one_item (x ∷ xs) (suc n) a b inside = one_item xs n a b (omega (arith, inside))
 
 -- a place of a greater table is a greater place
 higher-table : (a b : Place) → b.0 < a.0 → place_cmp a b ≡ Greater
@@ -50,7 +46,7 @@ module _ {X : Type 0} (key : X → Place) (xs : List X) (t : ℕ) (after : List 
   module _ (ascends : IsTrue (rises place_cmp (map key xs))) where
     in_order : (i j : ℕ) (d e : X) → i < j → j < length xs → place_cmp (key (get_or xs i d)) (key (get_or xs j e)) ≡ Less
     in_order i j d e before inside =
-        ap (λ x. place_cmp (key x) (key (get_or xs j e))) (one_item xs i d e (omega (arith, before, inside)))
+        ap (λ x. place_cmp (key x) (key (get_or xs j e))) (get_or_default xs i d e (omega (arith, before, inside)))
         ∙ sorted-index place_cmp key (λ x. x) place_total xs (sorted_from_rises place_cmp key (λ x. x) xs ascends) i j e before inside
 
     pub past-at : (i : ℕ) → IsAt place_cmp key xs (t, after) i → IsPast key xs t after (i + 1)
@@ -96,7 +92,7 @@ module _ {X : Type 0} (key : X → Place) (xs : List X) (t : ℕ) (after : List 
         by_side : (o : Ordering) → MatchOrdering o (i < j) (i ≡ j) (j < i) → (key (get_or xs i d)).0 ≤ (key (get_or xs j e)).0
         by_side Less before = lower-table (key (get_or xs i d)) (key (get_or xs j e)) (in_order ascends i j d e before below)
         by_side Equal same =
-            let item : (key (get_or xs i d)).0 ≡ (key (get_or xs j e)).0 = ap (λ x. (key x).0) (one_item xs i d e inside) ∙ ap (λ n. (key (get_or xs n e)).0) same in
+            let item : (key (get_or xs i d)).0 ≡ (key (get_or xs j e)).0 = ap (λ x. (key x).0) (get_or_default xs i d e inside) ∙ ap (λ n. (key (get_or xs n e)).0) same in
             omega (arith, item)
         by_side Greater behind = absurd (omega (arith, behind, from))
 
@@ -117,7 +113,7 @@ module _ {X : Type 0} (key : X → Place) (xs : List X) (t : ℕ) (after : List 
             ∙ find-at place_cmp key (λ x. x) place_total xs (key (get_or xs i d)) i d (record {
               in_range = inside;
               lower_before = λ j e before. in_order ascends j i e d before inside;
-              same_here = λ e. ap (λ x. place_cmp (key x) (key (get_or xs i d))) (one_item xs i e d inside) ∙ tied_itself place_total (key (get_or xs i d));
+              same_here = λ e. ap (λ x. place_cmp (key x) (key (get_or xs i d))) (get_or_default xs i e d inside) ∙ tied_itself place_total (key (get_or xs i d));
             }),
         λ k behind before. none-there k behind (λ j e from below. above k before j e from below),
       ) where
@@ -129,5 +125,5 @@ module _ {X : Type 0} (key : X → Place) (xs : List X) (t : ℕ) (after : List 
         above k before j e from below = turned place_cmp key (λ x. x) place_total (t, k) (key (get_or xs j e)) Less (by_side (nat_cmp i j) (ranks i j)) where
           by_side : (o : Ordering) → MatchOrdering o (i < j) (i ≡ j) (j < i) → place_cmp (t, k) (key (get_or xs j e)) ≡ Less
           by_side Less earlier = place_total.trans (t, k) (key (get_or xs i d)) (key (get_or xs j e)) (lower_key k before) (in_order ascends i j d e earlier below)
-          by_side Equal here = ap (λ x. place_cmp (t, k) (key x)) (sym (one_item xs i d e inside ∙ ap (λ n. get_or xs n e) here)) ∙ lower_key k before
+          by_side Equal here = ap (λ x. place_cmp (t, k) (key x)) (sym (get_or_default xs i d e inside ∙ ap (λ n. get_or xs n e) here)) ∙ lower_key k before
           by_side Greater later = absurd (omega (arith, later, from))

@@ -11,30 +11,12 @@ use Rattle.std.specs.Cmp.Lexicographic.{slice_cmp, nat_list_cmp_total}
 use Rattle.std.specs.FinMap as fin
 use Rattle.std.specs.FinMap.{entries, entries_sorted, get, get-entries, slice_cmp-IsAntisymmetric, nat_cmp-IsAntisymmetric}
 use Rattle.std.specs.FinMap.Entries.{below_all, is_sorted}
+use Rattle.mdb_bytes.proofs.Decoding.{and_left, and_right, and_both}
+use Rattle.mdb_bytes.proofs.Booleans.{first_holds, second_holds}
 use Rattle.mdb_model.specs.Tables.{Place, Tables, place_cmp}
 use Rattle.mdb_bytes.specs.Held.{is_before, next_row, IsNextRow}
 use Rattle.sorted_places.specs.First.{IsFirst}
 use Rattle.sorted_places.proofs.Places.{place_total, place_exact}
-
-left : (a b : Bool) → (a && b) ≡ true → a ≡ true
-left true b p = refl
-left false b p = cc
-
-right : (a b : Bool) → (a && b) ≡ true → b ≡ true
-right true b p = p
-right false b p = cc
-
-both : (a b : Bool) → a ≡ true → b ≡ true → (a && b) ≡ true
-both true b p q = q
-both false b p q = cc
-
-first : (a b : Bool) → T (a && b) → T a
-first true b p = tt
-first false b p = p
-
-second : (a b : Bool) → T (a && b) → T b
-second true b p = p
-second false b p = absurd p
 
 is_less : (o : Ordering) → T (is_lt o) → o ≡ Less
 is_less Less p = refl
@@ -45,8 +27,8 @@ is_less Greater p = absurd p
 find-lower : {X : Type 0} (q k : Place) (es : List (Place × X)) → place_cmp q k ≡ Less → T (below_all place_cmp k es) → fin.find place_cmp q es ≡ None
 find-lower q k [] lower below = refl
 find-lower {X} q k (e ∷ es) lower below =
-    ap (λ o. cond (is_eq o) (Some e.1) (fin.find place_cmp q es)) (place_total.trans q k e.0 lower (is_less _ (first _ _ below)))
-    ∙ find-lower q k es lower (second _ _ below)
+    ap (λ o. cond (is_eq o) (Some e.1) (fin.find place_cmp q es)) (place_total.trans q k e.0 lower (is_less _ (first_holds _ _ below)))
+    ∙ find-lower q k es lower (second_holds _ _ below)
 
 -- how two keys stand to each other, as they stand in the order
 pub before-less : (a b : List ℕ) → slice_cmp nat_cmp a b ≡ Less → IsTrue (is_before a b)
@@ -80,7 +62,7 @@ module _ (t : ℕ) (after : List ℕ) where
     by_order Greater is = refl
     by_order Equal is =
         let same : (t, k) ≡ e.0 = place_exact (t, k) e.0 is in
-        let passes : wanted e ≡ true = ap (λ (p : Place). (p.0 == t) && is_before after p.1) (sym same) ∙ both (t == t) (is_before after k) (eq-eqb t t refl) behind in
+        let passes : wanted e ≡ true = ap (λ (p : Place). (p.0 == t) && is_before after p.1) (sym same) ∙ and_both (t == t) (is_before after k) (eq-eqb t t refl) behind in
         let wrong : true ≡ false = sym passes ∙ fails in
         cc
 
@@ -98,22 +80,22 @@ module _ (t : ℕ) (after : List ℕ) where
 
   some-of : (es : List (Place × List ℕ)) (f : Place × List ℕ) → T (is_sorted place_cmp es) → find wanted es ≡ Some f → IsFound es f
   some-of [] f sorted is = cc
-  some-of (e ∷ es) f sorted is = by_test (some-of es f (second _ _ sorted)) (wanted e) refl is where
+  some-of (e ∷ es) f sorted is = by_test (some-of es f (second_holds _ _ sorted)) (wanted e) refl is where
     here : wanted e ≡ true → IsFound (e ∷ es) e
     here passes = (
       ap (λ o. cond (is_eq o) (Some e.1) (fin.find place_cmp e.0 es)) (tied_itself place_total e.0),
       passes,
       λ k behind before.
-          let lower = same-table t k e.0 (eqb-true e.0.0 t (left (e.0.0 == t) (is_before after e.0.1) passes)) (less-before k e.0.1 before) in
-          ap (λ o. cond (is_eq o) (Some e.1) (fin.find place_cmp (t, k) es)) lower ∙ find-lower (t, k) e.0 es lower (first _ _ sorted),
+          let lower = same-table t k e.0 (eqb-true e.0.0 t (and_left (e.0.0 == t) (is_before after e.0.1) passes)) (less-before k e.0.1 before) in
+          ap (λ o. cond (is_eq o) (Some e.1) (fin.find place_cmp (t, k) es)) lower ∙ find-lower (t, k) e.0 es lower (first_holds _ _ sorted),
     )
 
     by_test : (find wanted es ≡ Some f → IsFound es f) → (b : Bool) → wanted e ≡ b → cond b (Some e) (find wanted es) ≡ Some f → IsFound (e ∷ es) f
     by_test further true passes is = subst (IsFound (e ∷ es)) (ap (λ o. unwrap_or o f) is) (here passes)
     by_test further false fails is =
         let found : IsFound es f = further is in
-        let table : f.0.0 ≡ t = eqb-true f.0.0 t (left (f.0.0 == t) (is_before after f.0.1) found.1) in
-        let behind : IsTrue (is_before after f.0.1) = right (f.0.0 == t) (is_before after f.0.1) found.1 in
+        let table : f.0.0 ≡ t = eqb-true f.0.0 t (and_left (f.0.0 == t) (is_before after f.0.1) found.1) in
+        let behind : IsTrue (is_before after f.0.1) = and_right (f.0.0 == t) (is_before after f.0.1) found.1 in
         let same : f.0 ≡ (t, f.0.1) = (λ i. (table i, f.0.1)) in (
           ap (λ (p : Place). fin.find place_cmp p (e ∷ es)) same ∙ miss e es f.0.1 fails behind ∙ ap (λ (p : Place). fin.find place_cmp p es) (sym same) ∙ found.0,
           found.1,
@@ -129,9 +111,9 @@ module _ (m : Tables) (t : ℕ) (after : List ℕ) where
     by_entry false (Some f) some is = cc
     by_entry true (Some f) some is =
         let there : IsFound t after (entries m) f = some-of t after (entries m) f (entries_sorted m) some in
-        let table : f.0.0 ≡ t = eqb-true f.0.0 t (left (f.0.0 == t) (is_before after f.0.1) there.1) in
+        let table : f.0.0 ≡ t = eqb-true f.0.0 t (and_left (f.0.0 == t) (is_before after f.0.1) there.1) in
         let same : (f.0.1, f.1) ≡ (key, value) = ap (λ o. unwrap_or o (key, value)) is in (
-          subst (λ (p : List ℕ × List ℕ). IsTrue (is_before after p.0)) same (right (f.0.0 == t) (is_before after f.0.1) there.1),
+          subst (λ (p : List ℕ × List ℕ). IsTrue (is_before after p.0)) same (and_right (f.0.0 == t) (is_before after f.0.1) there.1),
           subst (λ (p : List ℕ × List ℕ). get m (t, p.0) ≡ Some p.1) same (get-entries m (t, f.0.1) ∙ ap (λ n. fin.find place_cmp (n, f.0.1) (entries m)) (sym table) ∙ there.0),
           subst (λ (p : List ℕ × List ℕ). (k : List ℕ) → IsTrue (is_before after k) → IsTrue (is_before k p.0) → get m (t, k) ≡ None) same
               (λ k behind before. get-entries m (t, k) ∙ there.2 k behind before),

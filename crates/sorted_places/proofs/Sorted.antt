@@ -12,16 +12,9 @@ use Rattle.std.specs.Cmp.{IsTotalOrder, alike_right}
 use Rattle.std.specs.FinMap.{find, put, is_sorted, IsAntisymmetric}
 use Rattle.std.specs.FinMap.Entries.{by_order, where_key, below_all}
 use Rattle.std.proofs.lemmas.List.Sorted.{searchable_from_sorted}
+use Rattle.mdb_bytes.proofs.Booleans.{first_holds, second_holds}
 use Rattle.mdb_bytes.specs.Fields.{rises}
 use Rattle.sorted_places.specs.Search.{IsAt, IsGap}
-
-first : (a b : Bool) → T (a && b) → T a
-first true b p = tt
-first false b p = p
-
-second : (a b : Bool) → T (a && b) → T b
-second true b p = p
-second false b p = absurd p
 
 is_less : (o : Ordering) → T (is_lt o) → o ≡ Less
 is_less Less p = refl
@@ -54,15 +47,15 @@ module _ {K X V : Type 0} (R : K → K → Ordering) (key : X → K) (value : X 
   module _ (o : IsTotalOrder R) where
     below-index : (k : K) (xs : List X) → T (below_all R k (map entry xs)) → (j : ℕ) (d : X) → j < length xs → R k (key (get_or xs j d)) ≡ Less
     below-index k [] below j d inside = absurd (omega (arith, inside))
-    below-index k (x ∷ xs) below zero d inside = is_less _ (first _ _ below)
-    below-index k (x ∷ xs) below (suc j) d inside = below-index k xs (second _ _ below) j d (omega (arith, inside))
+    below-index k (x ∷ xs) below zero d inside = is_less _ (first_holds _ _ below)
+    below-index k (x ∷ xs) below (suc j) d inside = below-index k xs (second_holds _ _ below) j d (omega (arith, inside))
 
     -- an earlier key is lower
     pub sorted-index : (xs : List X) → T (is_sorted R (map entry xs)) → (i j : ℕ) (d : X) → i < j → j < length xs → R (key (get_or xs i d)) (key (get_or xs j d)) ≡ Less
     sorted-index [] sorted i j d before inside = absurd (omega (arith, inside))
     sorted-index (x ∷ xs) sorted i zero d before inside = absurd (omega (arith, before))
-    sorted-index (x ∷ xs) sorted zero (suc j) d before inside = below-index (key x) xs (first _ _ sorted) j d (omega (arith, inside))
-    sorted-index (x ∷ xs) sorted (suc i) (suc j) d before inside = sorted-index xs (second _ _ sorted) i j d (omega (arith, before)) (omega (arith, inside))
+    sorted-index (x ∷ xs) sorted zero (suc j) d before inside = below-index (key x) xs (first_holds _ _ sorted) j d (omega (arith, inside))
+    sorted-index (x ∷ xs) sorted (suc i) (suc j) d before inside = sorted-index xs (second_holds _ _ sorted) i j d (omega (arith, before)) (omega (arith, inside))
 
     not_after : (xs : List X) → T (is_sorted R (map entry xs)) → IsSortedBy (λ a b. is_lt (R (key a) (key b))) xs
     not_after xs sorted k d low inside =
@@ -164,7 +157,7 @@ module _ {K X V : Type 0} (R : K → K → Ordering) (key : X → K) (value : X 
     where_key-at (x ∷ xs) sorted k zero is =
         let same = turned (key x) k Equal (is.same_here x) in
         ap (λ r. cond (not (is_eq r)) (entry x ∷ where_key R (λ q. not (eq_by_cmp R k q)) (map entry xs)) (where_key R (λ q. not (eq_by_cmp R k q)) (map entry xs))) same
-        ∙ above k xs (λ j d inside. o.congr k (key x) (key (get_or xs j d)) same ∙ below-index (key x) xs (first _ _ sorted) j d inside)
+        ∙ above k xs (λ j d inside. o.congr k (key x) (key (get_or xs j d)) same ∙ below-index (key x) xs (first_holds _ _ sorted) j d inside)
     where_key-at (x ∷ xs) sorted k (suc i) is =
         kept k x xs Greater (turned (key x) k Less (is.lower_before 0 x (omega arith))) tt
-        ∙ ap (λ es. entry x ∷ es) (where_key-at xs (second _ _ sorted) k i (at-tail x xs k i is))
+        ∙ ap (λ es. entry x ∷ es) (where_key-at xs (second_holds _ _ sorted) k i (at-tail x xs k i is))

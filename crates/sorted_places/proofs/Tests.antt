@@ -5,7 +5,7 @@
 --     ascends-insert      a list with one more item at the gap for it ascends
 --     table-at, table-tested, table-past      whether an item is of a table
 use Rattle.std.proofs.Common.{◌≡◌, refl, sym, ap, ◌∙◌, ℕ, zero, suc, ◌<◌, ◌≤◌, Bool, true, false, ◌||◌, ◌==◌, List, [], ◌∷◌, map, length, get_or, Result, Ok, Err, IfOk, IfErr, is_ok, IsTrue, arith}
-use Rattle.std.proofs.lemmas.Bool.{ne_eqb, eqb-true, eqb-false, eq-eqb}
+use Rattle.std.proofs.lemmas.Bool.{ne_eqb, eqb-true, eqb-false, eq-eqb, or_right, or_from}
 use Rattle.std.proofs.lemmas.List.Folds.{list_any_at}
 use Rattle.std.specs.List.{insert, list_any}
 use Rattle.std.specs.declared.cmp.Ordering.{Ordering}
@@ -14,6 +14,7 @@ use Rattle.std.specs.Ordering.{is_eq, eq_by_cmp, nat_cmp, ordering_then, MatchOr
 use Rattle.std.specs.Cmp.{IsTotalOrder, ranks}
 use Rattle.std.specs.Cmp.Lexicographic.{slice_cmp}
 use Rattle.std.specs.FinMap.{IsAntisymmetric}
+use Rattle.std.proofs.lemmas.List.{get_or_default}
 use Rattle.mdb_model.specs.Tables.{Place, place_cmp}
 use Rattle.mdb_bytes.specs.Fields.{rises}
 use Rattle.sorted_places.specs.Search.{IsAt, IsGap}
@@ -31,14 +32,6 @@ or_grouped : (a b c : Bool) → (a || (b || c)) ≡ ((a || b) || c)
 or_grouped true b c = refl
 or_grouped false b c = refl
 
-or_right : (a b : Bool) → b ≡ true → (a || b) ≡ true
-or_right true b is = refl
-or_right false b is = is
-
-or_both : (a b : Bool) → a ≡ false → b ≡ false → (a || b) ≡ false
-or_both true b p q = p
-or_both false b p q = q
-
 module _ {X : Type 0} (test : X → Bool) where
   pub any-insert : (xs : List X) (i : ℕ) (y : X) → list_any test (insert xs i y) ≡ (list_any test xs || test y)
   any-insert xs zero y = or_turned (test y) (list_any test xs)
@@ -47,7 +40,7 @@ module _ {X : Type 0} (test : X → Bool) where
 
   pub none-index : (xs : List X) → ((j : ℕ) (d : X) → j < length xs → test (get_or xs j d) ≡ false) → list_any test xs ≡ false
   none-index [] fails = refl
-  none-index (x ∷ xs) fails = or_both (test x) (list_any test xs) (fails 0 x (omega arith)) (none-index xs (λ j d inside. fails (suc j) d (omega (arith, inside))))
+  none-index (x ∷ xs) fails = or_from (test x) (list_any test xs) (fails 0 x (omega arith)) (none-index xs (λ j d inside. fails (suc j) d (omega (arith, inside))))
 
 pub any-map : {X K : Type 0} (test : K → Bool) (key : X → K) (xs : List X) → list_any test (map key xs) ≡ list_any (λ x. test (key x)) xs
 any-map test key [] = refl
@@ -77,9 +70,9 @@ module _ {K X : Type 0} (R : K → K → Ordering) (key : X → K) (o : IsTotalO
   at-gap : (xs : List X) (k : K) (i : ℕ) → IsGap R key xs k i → list_any (λ x. eq_by_cmp R k (key x)) xs ≡ false
   at-gap [] k i is = refl
   at-gap (x ∷ xs) k zero is =
-      or_both (eq_by_cmp R k (key x)) _ (ap is_eq (turned R key (λ x. x) o (key x) k Greater (is.greater_after 0 x (omega arith) (omega arith)))) (at-gap xs k zero (gap-none R key (λ x. x) o x xs k is))
+      or_from (eq_by_cmp R k (key x)) _ (ap is_eq (turned R key (λ x. x) o (key x) k Greater (is.greater_after 0 x (omega arith) (omega arith)))) (at-gap xs k zero (gap-none R key (λ x. x) o x xs k is))
   at-gap (x ∷ xs) k (suc i) is =
-      or_both (eq_by_cmp R k (key x)) _ (ap is_eq (turned R key (λ x. x) o (key x) k Less (is.lower_before 0 x (omega arith)))) (at-gap xs k i (gap-tail R key (λ x. x) o x xs k i is))
+      or_from (eq_by_cmp R k (key x)) _ (ap is_eq (turned R key (λ x. x) o (key x) k Less (is.lower_before 0 x (omega arith)))) (at-gap xs k i (gap-tail R key (λ x. x) o x xs k i is))
 
   pub contains-at : (xs : List X) (k : K) (i : ℕ) → IsAt R key xs k i → list_any (eq_by_cmp R k) (map key xs) ≡ true
   contains-at xs k i is = any-map (eq_by_cmp R k) key xs ∙ at-index xs k i is
@@ -149,12 +142,7 @@ module _ {X : Type 0} (key : X → Place) (xs : List X) (t : ℕ) (i : ℕ) wher
             omega (arith, least, other)
 
         same_item : (j : ℕ) (e : X) → j ≡ i → get_or xs j e ≡ get_or xs i d
-        same_item j e is_i = ap (λ n. get_or xs n e) is_i ∙ one_item xs i e d inside
-          where
-            one_item : (ys : List X) (n : ℕ) (a b : X) → n < length ys → get_or ys n a ≡ get_or ys n b
-            one_item [] n a b within = absurd (omega (arith, within))
-            one_item (y ∷ ys) zero a b within = refl
-            one_item (y ∷ ys) (suc n) a b within = one_item ys n a b (omega (arith, within))
+        same_item j e is_i = ap (λ n. get_or xs n e) is_i ∙ get_or_default xs i e d inside
 
         apart : (j : ℕ) (e : X) → j < length xs → (key (get_or xs j e)).0 ≡ t → ⊥
         apart j e below same = by_side (nat_cmp j i) (ranks j i) where

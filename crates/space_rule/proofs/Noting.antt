@@ -18,12 +18,12 @@ use Rattle.std.proofs.lemmas.Option.{same_Some}
 use Rattle.mdb_model.specs.Tables.{place_of}
 use Rattle.mdb_model.specs.Space.{table_pages}
 use Rattle.space_rule.specs.declared.open_change.OpenChange.{OpenChange}
-use Rattle.space_rule.specs.Told.{changes_at, growth_on, growth_of, cost_of, pages_of, undo_cost, undo_pages_for, session_undo, undo_of, opened, with_open}
+use Rattle.space_rule.specs.KnownCosts.{changes_at, growth_on, growth_of, open_table_cost, all_table_pages, undo_cost, undo_pages_for, session_undo, undo_of, opened_change, with_open}
 use Rattle.space_rule.specs.Weighing.{AreSums, IsInOrder, lists}
 use Rattle.space_rule.proofs.Sums.{growth-set, growth-noted, undo-set, session_in, pages-at, table_in}
 
 -- the length before is kept as it is known
-pub before-is : (change : Change) (before : Option ℕ) → (opened change before).before ≡ before
+pub before-is : (change : Change) (before : Option ℕ) → (opened_change change before).before ≡ before
 before-is (Put table key value) before = refl
 before-is (Del table key) before = refl
 
@@ -32,10 +32,10 @@ same_parts : (x y : OpenChange) → x.table ≡ y.table → x.key ≡ y.key → 
 same_parts x y e f g h = rw (e, f, g, h) refl
 
 -- a change as it is kept
-pub same-open : (change : Change) (before b n : Option ℕ) (table : Table) (key : List ℕ) → table ≡ (opened change before).table → key ≡ (opened change before).key → b ≡ before
-    → n ≡ (opened change before).now → record { table = table; key = key; before = b; now = n } ≡ opened change before
+pub same-open : (change : Change) (before b n : Option ℕ) (table : Table) (key : List ℕ) → table ≡ (opened_change change before).table → key ≡ (opened_change change before).key → b ≡ before
+    → n ≡ (opened_change change before).now → record { table = table; key = key; before = b; now = n } ≡ opened_change change before
 same-open change before b n table key e f g h =
-    let x = opened change before in
+    let x = opened_change change before in
     same_parts (record { table = table; key = key; before = b; now = n }) x e f (g ∙ sym (before-is change before)) h
 
 -- what holds of each item and of a new one holds after that one was set
@@ -80,7 +80,7 @@ module _ (committed grown : List ℕ) (sessions : List (List OpenChange)) (undo_
   here = let l = sums.many_sessions.0 in omega arith
 
   -- the cost of the table before
-  old-cost : get_or committed t 0 + get_or grown t 0 ≡ cost_of committed sessions t
+  old-cost : get_or committed t 0 + get_or grown t 0 ≡ open_table_cost committed sessions t
   old-cost = ap (λ n. get_or committed t 0 + n) (sums.grown_is t (omega (arith, high)))
 
   -- the pages of the table are among the pages
@@ -113,11 +113,11 @@ module _ (committed grown : List ℕ) (sessions : List (List OpenChange)) (undo_
     new-bytes = let a = sums.bytes_are s inside in omega arith
 
     -- the cost of the table
-    new-cost : get_or committed t 0 + new_grown ≡ cost_of committed more t
+    new-cost : get_or committed t 0 + new_grown ≡ open_table_cost committed more t
     new-cost = ap (λ n. get_or committed t 0 + n) new-grown
 
     -- the pages of all tables
-    pub new-pages : pages - table_pages (get_or committed t 0 + get_or grown t 0) + table_pages (get_or committed t 0 + new_grown) ≡ pages_of committed more
+    pub new-pages : pages - table_pages (get_or committed t 0 + get_or grown t 0) + table_pages (get_or committed t 0 + new_grown) ≡ all_table_pages committed more
     new-pages =
         let a = ap table_pages old-cost in
         let b = ap table_pages new-cost in
@@ -138,7 +138,7 @@ module _ (committed grown : List ℕ) (sessions : List (List OpenChange)) (undo_
 
   -- the sums with the change are the running sums
   module _ (new_pages new_undo : ℕ) (grown_is : new_grown ≡ growth_of t more) (bytes_are : new_bytes ≡ sum_by undo_cost (with_open x xs))
-      (pages_is : new_pages ≡ pages_of committed more) (undo_is : new_undo ≡ undo_of more) (few : new_pages ≤ 2 ^ 32) (little : new_undo ≤ 2 ^ 32)
+      (pages_is : new_pages ≡ all_table_pages committed more) (undo_is : new_undo ≡ undo_of more) (few : new_pages ≤ 2 ^ 32) (little : new_undo ≤ 2 ^ 32)
       (order : IsInOrder (with_open x xs)) where
     -- the changes of the session
     here-more : changes_at more s ≡ with_open x xs
@@ -208,7 +208,7 @@ pub lists-length : (sessions : List (Vec OpenChange Global)) → length (lists s
 lists-length sessions = length-map sessions (λ (w : Vec OpenChange Global). w.items)
 
 -- a change that fits is of a table
-pub open-table : (change : Change) (before : Option ℕ) → IsTrue (change_fits change) → IsTrue (is_table (opened change before).table.0)
+pub open-table : (change : Change) (before : Option ℕ) → IsTrue (change_fits change) → IsTrue (is_table (opened_change change before).table.0)
 open-table (Put table key value) before fits = and_left (is_table table.0) (is_key key) (and_left (is_table table.0 && is_key key) (is_value value) fits)
 open-table (Del table key) before fits = and_left (is_table table.0) (is_key key) fits
 
@@ -218,7 +218,7 @@ session-inside s is = let a = leb-true s 64 (and_right (nat_le 1 s) _ is) in ome
 
 -- the place that memory was taken for
 pub taken-is : (taken : Option (Table × List ℕ)) (change : Change) (before : Option ℕ) → option_map (λ place. (place.0.0, place.1)) taken ≡ Some (place_of change)
-    → taken ≡ Some ((opened change before).table, (opened change before).key)
+    → taken ≡ Some ((opened_change change before).table, (opened_change change before).key)
 taken-is None change before is = absurd cc
 taken-is (Some (table, key)) (Put other other_key value) before is =
     let same : (table.0, key) ≡ (other.0, other_key) = same_Some _ _ is in

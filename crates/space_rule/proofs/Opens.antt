@@ -21,7 +21,7 @@ use Rattle.mdb_bytes.specs.Fields.{rises}
 use Rattle.mdb_bytes.proofs.Decoding.{and_left, and_right}
 use Rattle.mdb_model.specs.Script.{is_table}
 use Rattle.space_rule.specs.declared.open_change.OpenChange.{OpenChange}
-use Rattle.space_rule.specs.Told.{open_place, open_by, with_open, growth, growth_on, row_cost, undo_cost}
+use Rattle.space_rule.specs.KnownCosts.{open_place, open_by, with_open, growth, growth_on, cost_of_lengths, undo_cost}
 use Rattle.space_rule.specs.Weighing.{IsInOrder}
 
 -- the earlier change of the key gets what is now
@@ -59,18 +59,18 @@ same-place x xs i d is = place_exact (open_place (get_or xs i d)) (open_place x)
 
 -- the growth of the table after an earlier change of the key got what is now
 pub grown-at : (x : OpenChange) (xs : List OpenChange) (i : ℕ) (d : OpenChange) → IsAt place_cmp open_place xs (open_place x) i
-    → (sum_by (growth_on x.table.0) (with_open x xs) + (row_cost (length x.key) (get_or xs i d).now - row_cost (length x.key) (get_or xs i d).before)
-    ≡ sum_by (growth_on x.table.0) xs + (row_cost (length x.key) x.now - row_cost (length x.key) (get_or xs i d).before))
-    × (row_cost (length x.key) (get_or xs i d).now - row_cost (length x.key) (get_or xs i d).before ≤ sum_by (growth_on x.table.0) xs)
+    → (sum_by (growth_on x.table.0) (with_open x xs) + (cost_of_lengths (length x.key) (get_or xs i d).now - cost_of_lengths (length x.key) (get_or xs i d).before)
+    ≡ sum_by (growth_on x.table.0) xs + (cost_of_lengths (length x.key) x.now - cost_of_lengths (length x.key) (get_or xs i d).before))
+    × (cost_of_lengths (length x.key) (get_or xs i d).now - cost_of_lengths (length x.key) (get_or xs i d).before ≤ sum_by (growth_on x.table.0) xs)
 grown-at x xs i d is =
     let y = get_or xs i d in
     let z : OpenChange = record y { now = x.now } in
     let table : y.table.0 ≡ x.table.0 = ap (λ p. p.0) (same-place x xs i d is) in
     let key : y.key ≡ x.key = ap (λ p. p.1) (same-place x xs i d is) in
-    let old : growth_on x.table.0 y ≡ row_cost (length x.key) y.now - row_cost (length x.key) y.before =
-    growth-here x.table.0 y table ∙ ap (λ k. row_cost (length k) y.now - row_cost (length k) y.before) key in
-    let new : growth_on x.table.0 z ≡ row_cost (length x.key) x.now - row_cost (length x.key) y.before =
-    growth-here x.table.0 z table ∙ ap (λ k. row_cost (length k) x.now - row_cost (length k) y.before) key in
+    let old : growth_on x.table.0 y ≡ cost_of_lengths (length x.key) y.now - cost_of_lengths (length x.key) y.before =
+    growth-here x.table.0 y table ∙ ap (λ k. cost_of_lengths (length k) y.now - cost_of_lengths (length k) y.before) key in
+    let new : growth_on x.table.0 z ≡ cost_of_lengths (length x.key) x.now - cost_of_lengths (length x.key) y.before =
+    growth-here x.table.0 z table ∙ ap (λ k. cost_of_lengths (length k) x.now - cost_of_lengths (length k) y.before) key in
     let whole = ap (sum_by (growth_on x.table.0)) (with-at x xs i d is) in
     let part = sum_by-set (growth_on x.table.0) xs i z d is.in_range in
     let least = get_or-le-sum_by (growth_on x.table.0) xs i d is.in_range in
@@ -78,14 +78,14 @@ grown-at x xs i d is =
 
 -- the same, of the change as it was found
 pub grown-found : (x : OpenChange) (xs : List OpenChange) (i : ℕ) (y : OpenChange) → IsAt place_cmp open_place xs (open_place x) i → y ≡ get_or xs i y
-    → (sum_by (growth_on x.table.0) (with_open x xs) + (row_cost (length x.key) y.now - row_cost (length x.key) y.before)
-    ≡ sum_by (growth_on x.table.0) xs + (row_cost (length x.key) x.now - row_cost (length x.key) y.before))
-    × (row_cost (length x.key) y.now - row_cost (length x.key) y.before ≤ sum_by (growth_on x.table.0) xs)
+    → (sum_by (growth_on x.table.0) (with_open x xs) + (cost_of_lengths (length x.key) y.now - cost_of_lengths (length x.key) y.before)
+    ≡ sum_by (growth_on x.table.0) xs + (cost_of_lengths (length x.key) x.now - cost_of_lengths (length x.key) y.before))
+    × (cost_of_lengths (length x.key) y.now - cost_of_lengths (length x.key) y.before ≤ sum_by (growth_on x.table.0) xs)
 grown-found x xs i y is found =
     let P : OpenChange → Type 0 = λ z.
-    (sum_by (growth_on x.table.0) (with_open x xs) + (row_cost (length x.key) z.now - row_cost (length x.key) z.before)
-    ≡ sum_by (growth_on x.table.0) xs + (row_cost (length x.key) x.now - row_cost (length x.key) z.before))
-    × (row_cost (length x.key) z.now - row_cost (length x.key) z.before ≤ sum_by (growth_on x.table.0) xs) in
+    (sum_by (growth_on x.table.0) (with_open x xs) + (cost_of_lengths (length x.key) z.now - cost_of_lengths (length x.key) z.before)
+    ≡ sum_by (growth_on x.table.0) xs + (cost_of_lengths (length x.key) x.now - cost_of_lengths (length x.key) z.before))
+    × (cost_of_lengths (length x.key) z.now - cost_of_lengths (length x.key) z.before ≤ sum_by (growth_on x.table.0) xs) in
     subst P (sym found) (grown-at x xs i y is)
 
 -- the before images stay

@@ -10,16 +10,16 @@ use Rattle.std.proofs.Math.Seq.{get_or-append_seam}
 use Rattle.std.proofs.lemmas.List.Sums.{sum_by_push, sum_by-cons}
 use Rattle.mdb_model.specs.Space.{table_pages}
 use Rattle.space_rule.specs.declared.open_change.OpenChange.{OpenChange}
-use Rattle.space_rule.specs.Told.{changes_at, cost_before, cost_now, growth, growth_on, growth_of, cost_of, pages_of, settled, with_settled, costs_after, undo_cost, undo_pages_for, undo_of}
+use Rattle.space_rule.specs.KnownCosts.{changes_at, cost_before, cost_now, growth, growth_on, growth_of, open_table_cost, all_table_pages, with_settled_cost, with_settled, costs_after, undo_cost, undo_pages_for, undo_of}
 use Rattle.space_rule.specs.Weighing.{AreSums, IsInOrder}
 use Rattle.space_rule.proofs.Opens.{growth-here, growth-elsewhere, order-front}
 use Rattle.space_rule.proofs.Sums.{growth-set, undo-set, session_in, growth_in, pages-at, table_in, pages-small}
 use Rattle.space_rule.proofs.Noting.{set-all}
 
 -- committed changes, the last one first
-pub settled_push : (xs : List OpenChange) (x : OpenChange) (committed : List ℕ) → with_settled (xs ++ x ∷ []) committed ≡ with_settled xs (settled x committed)
+pub settled_push : (xs : List OpenChange) (x : OpenChange) (committed : List ℕ) → with_settled (xs ++ x ∷ []) committed ≡ with_settled xs (with_settled_cost x committed)
 settled_push [] x committed = refl
-settled_push (y ∷ xs) x committed = ap (settled y) (settled_push xs x committed)
+settled_push (y ∷ xs) x committed = ap (with_settled_cost y) (settled_push xs x committed)
 
 -- a table costs no more once a change ended
 pub not-more : (b : Bool) (cost c now before g : ℕ) → cost ≡ cond b ((c + now) - before) c → now - before ≤ g → cost + (g - (now - before)) ≤ c + g
@@ -178,7 +178,7 @@ module _ (committed grown : List ℕ) (sessions : List (List OpenChange)) (undo_
 
   module _ (cost : ℕ) (not_more : cost + (get_or grown t 0 - growth x) ≤ get_or committed t 0 + get_or grown t 0) where
     -- the cost of the table without it
-    here-cost : cost_of (set committed t cost) fewer t ≡ cost + (get_or grown t 0 - growth x)
+    here-cost : open_table_cost (set committed t cost) fewer t ≡ cost + (get_or grown t 0 - growth x)
     here-cost =
         let l = sums.many_tables.0 in
         let r = range.1 in
@@ -191,7 +191,7 @@ module _ (committed grown : List ℕ) (sessions : List (List OpenChange)) (undo_
     small = let a = sums.costs_small t (let r = range.1 in omega arith) in omega arith
 
     -- the pages of all tables
-    pub new-pages : pages - table_pages (get_or committed t 0 + get_or grown t 0) + table_pages (cost + (get_or grown t 0 - growth x)) ≡ pages_of (set committed t cost) fewer
+    pub new-pages : pages - table_pages (get_or committed t 0 + get_or grown t 0) + table_pages (cost + (get_or grown t 0 - growth x)) ≡ all_table_pages (set committed t cost) fewer
     new-pages =
         let a = ap (λ n. table_pages (get_or committed t 0 + n)) (sums.grown_is t (let r = range.1 in omega arith)) in
         let b = ap table_pages here-cost in
@@ -211,7 +211,7 @@ module _ (committed grown : List ℕ) (sessions : List (List OpenChange)) (undo_
         omega arith
 
     -- the sums without the change are the running sums
-    pub after-settle : (new_pages new_undo : ℕ) → new_pages ≡ pages_of (set committed t cost) fewer → new_undo ≡ undo_of fewer
+    pub after-settle : (new_pages new_undo : ℕ) → new_pages ≡ all_table_pages (set committed t cost) fewer → new_undo ≡ undo_of fewer
         → AreSums (set committed t cost) (set grown t (get_or grown t 0 - growth x)) fewer (set undo_bytes s (get_or undo_bytes s 0 - undo_cost x)) new_pages new_undo
     after-settle new_pages new_undo pages_is undo_is =
         let tables = sums.many_tables in
@@ -268,10 +268,10 @@ module _ (committed grown : List ℕ) (sessions : List (List OpenChange)) (undo_
     costing = let l = sums.many_tables.0 in omega arith
 
     -- the pages of all tables
-    loaded-pages : pages - old + new ≡ pages_of (set committed t bytes) sessions
+    loaded-pages : pages - old + new ≡ all_table_pages (set committed t bytes) sessions
     loaded-pages =
         let a = ap (λ n. table_pages (get_or committed t 0 + n)) (sums.grown_is t (omega arith)) in
-        let is : cost_of (set committed t bytes) sessions t ≡ bytes = (let f = get_or-set_same committed t bytes 0 costing in omega arith) in
+        let is : open_table_cost (set committed t bytes) sessions t ≡ bytes = (let f = get_or-set_same committed t bytes 0 costing in omega arith) in
         let b = ap table_pages is in
         let c = sums.pages_is in
         let d = cost-in in

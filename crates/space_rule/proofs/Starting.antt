@@ -6,7 +6,7 @@ use Rattle.std.specs.List.{range_with_len}
 use Rattle.std.proofs.lemmas.List.Sums.{sum_by-cons}
 use Rattle.mdb_model.specs.Space.{table_pages, every_table}
 use Rattle.space_rule.specs.declared.open_change.OpenChange.{OpenChange}
-use Rattle.space_rule.specs.Told.{growth_of, cost_of, pages_of, session_undo, undo_cost, growth_on}
+use Rattle.space_rule.specs.KnownCosts.{growth_of, open_table_cost, all_table_pages, session_undo, undo_cost, growth_on}
 use Rattle.space_rule.proofs.Settling.{less-along}
 use Rattle.space_rule.specs.Weighing.{AreSums, IsInOrder, lists}
 
@@ -34,13 +34,13 @@ all-none f (suc n) none =
     omega arith
 
 -- a table without rows costs nothing
-cost-none : (i : ℕ) → cost_of (replicate 501 0) (replicate 65 []) i ≡ 0
+cost-none : (i : ℕ) → open_table_cost (replicate 501 0) (replicate 65 []) i ≡ 0
 cost-none i = ap (λ n. n + growth_of i (replicate 65 [])) (none-at 501 i 0) ∙ ap (λ n. 0 + n) (all-none (λ changes. sum_by (growth_on i) changes) 65 refl)
 
 -- tables without rows have no pages
-pages-none : pages_of (replicate 501 0) (replicate 65 []) ≡ 0
+pages-none : all_table_pages (replicate 501 0) (replicate 65 []) ≡ 0
 unfolding every_table
-pages-none = none-summed (λ i. table_pages (cost_of (replicate 501 0) (replicate 65 []) i)) 1 500 (λ i. ap table_pages (cost-none i))
+pages-none = none-summed (λ i. table_pages (open_table_cost (replicate 501 0) (replicate 65 []) i)) 1 500 (λ i. ap table_pages (cost-none i))
 
 -- no changes are in order
 order-none : IsInOrder []

@@ -11,7 +11,7 @@ use Rattle.std.proofs.lemmas.Bool.{cases_Bool, cases_order}
 use Rattle.std.proofs.lemmas.List.Sums.{sum_by-cons, sum_by-set, get_or-le-sum_by}
 use Rattle.mdb_model.specs.Space.{table_pages, every_table}
 use Rattle.space_rule.specs.declared.open_change.OpenChange.{OpenChange}
-use Rattle.space_rule.specs.Told.{changes_at, growth_on, growth_of, cost_of, pages_of, session_undo, undo_of, with_open}
+use Rattle.space_rule.specs.KnownCosts.{changes_at, growth_on, growth_of, open_table_cost, all_table_pages, session_undo, undo_of, with_open}
 use Rattle.space_rule.proofs.Opens.{sum-elsewhere}
 
 -- the growth of a table after the changes of a session became others
@@ -93,16 +93,16 @@ all_few f m a (suc n) few =
     omega arith
 
 -- the pages after the cost of one table became another
-pub pages-at : (c1 c2 : List ℕ) (s1 s2 : List (List OpenChange)) (t : ℕ) → 1 ≤ t → t ≤ 500 → ((i : ℕ) → (i ≡ t → ⊥) → cost_of c1 s1 i ≡ cost_of c2 s2 i)
-    → pages_of c1 s1 + table_pages (cost_of c2 s2 t) ≡ pages_of c2 s2 + table_pages (cost_of c1 s1 t)
+pub pages-at : (c1 c2 : List ℕ) (s1 s2 : List (List OpenChange)) (t : ℕ) → 1 ≤ t → t ≤ 500 → ((i : ℕ) → (i ≡ t → ⊥) → open_table_cost c1 s1 i ≡ open_table_cost c2 s2 i)
+    → all_table_pages c1 s1 + table_pages (open_table_cost c2 s2 t) ≡ all_table_pages c2 s2 + table_pages (open_table_cost c1 s1 t)
 unfolding every_table
 pages-at c1 c2 s1 s2 t low high same =
-    one_point (λ i. table_pages (cost_of c1 s1 i)) (λ i. table_pages (cost_of c2 s2 i)) t 1 500 low (omega arith) (λ i other. ap table_pages (same i other))
+    one_point (λ i. table_pages (open_table_cost c1 s1 i)) (λ i. table_pages (open_table_cost c2 s2 i)) t 1 500 low (omega arith) (λ i other. ap table_pages (same i other))
 
 -- the pages of a table are among the pages
-pub table_in : (c : List ℕ) (s : List (List OpenChange)) (t : ℕ) → 1 ≤ t → t ≤ 500 → table_pages (cost_of c s t) ≤ pages_of c s
+pub table_in : (c : List ℕ) (s : List (List OpenChange)) (t : ℕ) → 1 ≤ t → t ≤ 500 → table_pages (open_table_cost c s t) ≤ all_table_pages c s
 unfolding every_table
-table_in c s t low high = one_of (λ i. table_pages (cost_of c s i)) t 1 500 low (omega arith)
+table_in c s t low high = one_of (λ i. table_pages (open_table_cost c s i)) t 1 500 low (omega arith)
 
 -- a small cost is of few pages
 few_pages : (n : ℕ) → n < 2 ^ 62 → table_pages n ≤ 2 ^ 51
@@ -119,7 +119,7 @@ below_all : (n : ℕ) → n ≤ 500 * 2 ^ 51 → n ≤ 2 ^ 61
 below_all n le = omega arith
 
 -- small costs are of few pages
-pub pages-small : (c : List ℕ) (s : List (List OpenChange)) → ((t : ℕ) → t < 501 → cost_of c s t < 2 ^ 62) → pages_of c s ≤ 2 ^ 61
+pub pages-small : (c : List ℕ) (s : List (List OpenChange)) → ((t : ℕ) → t < 501 → open_table_cost c s t < 2 ^ 62) → all_table_pages c s ≤ 2 ^ 61
 unfolding every_table
 pages-small c s small =
-    below_all (pages_of c s) (all_few (λ i. table_pages (cost_of c s i)) (2 ^ 51) 1 500 (λ i low high. few_pages (cost_of c s i) (small i (omega arith))))
+    below_all (all_table_pages c s) (all_few (λ i. table_pages (open_table_cost c s i)) (2 ^ 51) 1 500 (λ i low high. few_pages (open_table_cost c s i) (small i (omega arith))))

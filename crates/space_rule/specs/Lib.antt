@@ -1,4 +1,4 @@
-pub mod Told
+pub mod KnownCosts
 pub mod Weighing
 pub mod Spaces
 pub mod Settling

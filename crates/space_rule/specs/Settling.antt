@@ -2,11 +2,11 @@
 use Rattle.std.specs.Prelude.{◌≡◌, ℕ, ◌+◌, ◌-◌, List, Bool, slice_index, slice_set, if◌then◌else◌}
 use Rattle.space_rule.specs.declared.open_change.OpenChange.{OpenChange}
 use Rattle.space_rule.specs.declared.space.calls.Settled.{Settled}
-use Rattle.space_rule.specs.Told.{cost_before, cost_now, growth as growth_by, undo_cost, pages_of}
-use Rattle.space_rule.specs.Told.{undo_of}
+use Rattle.space_rule.specs.KnownCosts.{cost_before, cost_now, growth as growth_by, undo_cost, all_table_pages}
+use Rattle.space_rule.specs.KnownCosts.{undo_of}
 
 -- the sums where the changes of the session are these and one more, which ended
-pub record IsSettled (committed grown : List ℕ) (sessions : List (List OpenChange))
+pub record IsChangeSettled (committed grown : List ℕ) (sessions : List (List OpenChange))
     (undo_bytes : List ℕ) (session : ℕ) (is_commit : Bool) (xs : List OpenChange) (x : OpenChange)
     (s : Settled) : Type 0 where
   pub index : s.index ≡ x.table.0
@@ -16,5 +16,5 @@ pub record IsSettled (committed grown : List ℕ) (sessions : List (List OpenCha
   pub growth : s.weight.grown ≡ slice_index grown x.table.0 - growth_by x
   pub bytes : s.weight.bytes ≡ slice_index undo_bytes session - undo_cost x
   pub pages : s.pages
-      ≡ pages_of (slice_set committed x.table.0 s.committed) (slice_set sessions session xs)
+      ≡ all_table_pages (slice_set committed x.table.0 s.committed) (slice_set sessions session xs)
   pub undo : s.undo ≡ undo_of (slice_set sessions session xs)

@@ -3,7 +3,7 @@
 --     IsInOrder      the changes of a session stand by table and key, and are of tables that there
 --         are
 --     AreSums      the running sums are those from scratch, and small enough to be counted on
---     HasRoom      each session has room for one more change
+--     HasChangeRoom      each session has room for one more change
 use Rattle.std.specs.Prelude.{◌≡◌, ℕ, ◌+◌, ◌^◌, ◌<◌, ◌≤◌}
 use Rattle.std.specs.Prelude.{List, length, map, Vec, vec_len, vec_capacity, IsTrue, sum_by}
 use Rattle.std.specs.Prelude.{slice_index, slice_index_or}
@@ -11,7 +11,7 @@ use Rattle.std.specs.declared.alloc.Global.{Global}
 use Rattle.mdb_model.specs.Tables.{place_cmp}
 use Rattle.mdb_bytes.specs.Fields.{rises}
 use Rattle.space_rule.specs.declared.open_change.OpenChange.{OpenChange}
-use Rattle.space_rule.specs.Told.{open_place, changes_at, growth_of, pages_of, undo_of, undo_cost}
+use Rattle.space_rule.specs.KnownCosts.{open_place, changes_at, growth_of, all_table_pages, undo_of, undo_cost}
 
 -- the changes of each session
 abbrev pub lists : List (Vec OpenChange Global) → List (List OpenChange)
@@ -32,14 +32,14 @@ pub record AreSums (committed grown : List ℕ) (sessions : List (List OpenChang
   pub bytes_small : (session : ℕ) → session < 65 → slice_index undo_bytes session < 2 ^ 62
   pub bytes_are : (session : ℕ) → session < 65
       → slice_index undo_bytes session ≡ sum_by undo_cost (changes_at sessions session)
-  pub pages_is : pages ≡ pages_of committed sessions
+  pub pages_is : pages ≡ all_table_pages committed sessions
   pub undo_is : undo ≡ undo_of sessions
   pub undo_small : undo ≤ 2 ^ 32
   pub pages_small : pages ≤ 2 ^ 61
   pub in_order : (session : ℕ) → session < 65 → IsInOrder (changes_at sessions session)
 
 -- each session has room for one more change
-abbrev pub HasRoom : List (Vec OpenChange Global) → Type 0
-HasRoom sessions =
+abbrev pub HasChangeRoom : List (Vec OpenChange Global) → Type 0
+HasChangeRoom sessions =
     (session : ℕ) (d : Vec OpenChange Global) → session < 65
     → vec_len (slice_index_or sessions session d) < vec_capacity (slice_index_or sessions session d)

@@ -1,7 +1,7 @@
 //! What rows, tables, transactions and areas cost.
 ghost use Rattle.std.specs.Prelude.{◌≡◌, ◌+◌, ◌-◌, ◌^◌, ◌<◌, ◌≤◌, length, unwrap_or};
 ghost use Rattle.mdb_model.specs.Space.{table_pages, converter_pages};
-ghost use Rattle.space_rule.specs.Told.{row_cost, undo_pages_for};
+ghost use Rattle.space_rule.specs.KnownCosts.{cost_of_lengths, undo_pages_for};
 
 use mdb_model::limits::PAGE_ROOM;
 
@@ -14,7 +14,7 @@ const LEAF_ENTRIES: u64 = 600;
 /// The bytes of a row with a value of this length; none where there is no row.
 pub(crate) fn row_cost(key: &[u8], value: Option<u16>) -> u64
     requires { length key.now < 2 ^ 62 }
-    ensures cost { result ≡ row_cost (length key.now) value }
+    ensures cost { result ≡ cost_of_lengths (length key.now) value }
     ensures small { result ≤ length key.now + 2 ^ 17 }
 {
     match value {
@@ -26,7 +26,8 @@ pub(crate) fn row_cost(key: &[u8], value: Option<u16>) -> u64
 /// How much a change of the row makes a table grow.
 pub(crate) fn growth(key: &[u8], before: Option<u16>, now: Option<u16>) -> u64
     requires { length key.now < 2 ^ 62 }
-    ensures { result ≡ row_cost (length key.now) now - row_cost (length key.now) before }
+    ensures { result ≡ cost_of_lengths (length key.now) now
+        - cost_of_lengths (length key.now) before }
 {
     row_cost(key, now).saturating_sub(row_cost(key, before))
 }

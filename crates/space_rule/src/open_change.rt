@@ -7,7 +7,7 @@ ghost use Rattle.mdb_bytes.specs.Fields.{rises};
 ghost use Rattle.sorted_places.specs.Search.{IsAt, IsGap};
 ghost use Rattle.mdb_model.specs.Script.{is_table};
 ghost use Rattle.space_rule.specs.Weighing.{IsInOrder};
-ghost use Rattle.space_rule.specs.Told.{open_place, growth_on, undo_cost, with_open};
+ghost use Rattle.space_rule.specs.KnownCosts.{open_place, growth_on, undo_cost, with_open};
 
 use crate::costs::{growth, image_cost};
 use mdb_model::bytes::Key;

@@ -1,7 +1,7 @@
 //! What the space rule counts.
 ghost use Rattle.std.specs.Prelude.{◌≡◌, ◌+◌, ◌^◌, ◌<◌, ◌≤◌, replicate};
 ghost use Rattle.std.specs.Option.{ForSome};
-ghost use Rattle.space_rule.specs.Weighing.{lists, AreSums, HasRoom};
+ghost use Rattle.space_rule.specs.Weighing.{lists, AreSums, HasChangeRoom};
 
 use crate::open_change::OpenChange;
 use mdb_model::bytes::Key;
@@ -37,5 +37,5 @@ pub struct Space {
     prepared: Option<(Table, Key)>,
     ghost kept_small: { kept < 2 ^ 62 },
     ghost sums: { AreSums committed grown (lists sessions) undo_bytes pages undo },
-    ghost has_room: { ForSome prepared (λ _. HasRoom sessions) },
+    ghost has_room: { ForSome prepared (λ _. HasChangeRoom sessions) },
 }

@@ -1,6 +1,6 @@
 // A store on a new area, over a host in memory that tells nothing of what it holds.
 ghost use Rattle.std.specs.Prelude.{◌≡◌, IfOk};
-ghost use Rattle.mdb_bytes.specs.Parts.{Keeps};
+ghost use Rattle.mdb_bytes.specs.Parts.{KeepsLimits};
 ghost use Rattle.mdb_bytes.specs.SlotRecords.{restart_format};
 ghost use Rattle.savepoint.specs.Stands.{restart_place};
 
@@ -34,7 +34,7 @@ pub(crate) fn image_of(
 // The slots of the data area, and the record that is in force there.
 pub(crate) fn record_of(host: &mut MuteHost) -> Result<(Slots, RestartRecord), Fail>
     ensures place { IfOk result (λ found. found.0.place ≡ restart_place) }
-    ensures keeps { IfOk result (λ found. Keeps restart_format found.1) }
+    ensures keeps { IfOk result (λ found. KeepsLimits restart_format found.1) }
 {
     let place = SlotPlace {
         device: Device::Data(1),

@@ -1,7 +1,7 @@
 // A store over a host in memory: pages are made, written and given up while savepoints are taken,
 // and each image that a crash on the way may leave is opened again.
 ghost use Rattle.std.specs.Prelude.{◌≡◌, ◌≤◌, ℕ, false, Some, IfOk};
-ghost use Rattle.mdb_bytes.specs.Parts.{Keeps as KeepsFormat};
+ghost use Rattle.mdb_bytes.specs.Parts.{KeepsLimits};
 ghost use Rattle.mdb_bytes.specs.SlotRecords.{restart_format};
 ghost use Rattle.page_store.specs.Steps.{KeepsMaps, OwnAsSaved, is_unwritten};
 
@@ -119,8 +119,8 @@ fn begin(store: &mut PageStore, mark: Mark) -> Result<Frozen, Fail>
 
 // The record of a savepoint: the last one with other numbers, below 256.
 fn next_record(rec: &RestartRecord, slot: u64, mark: Mark, root: u32) -> Result<RestartRecord, Fail>
-    requires { KeepsFormat restart_format rec.now }
-    ensures keeps { IfOk result (λ next. KeepsFormat restart_format next) }
+    requires { KeepsLimits restart_format rec.now }
+    ensures keeps { IfOk result (λ next. KeepsLimits restart_format next) }
     ensures root { IfOk result (λ next. next.root ≡ root) }
     ensures slot { IfOk result (λ next. next.slot ≡ slot) }
     ensures mark { IfOk result (λ next. (next.savepoint ≡ mark.savepoint) × (next.commit ≡ mark.commit) × (next.position ≡ mark.position)) }
@@ -302,7 +302,7 @@ fn pin_count(store: &PageStore, pin: &Pin, base: u64) -> Result<u32, Fail> {
 }
 
 // Reads the pages of the pinned map that were written after a savepoint. None of the others is
-// told.
+// reported.
 fn pinned_pages(
     store: &mut PageStore,
     host: &mut MuteHost,
@@ -395,7 +395,7 @@ impl Tried {
         Ok(pages == want && pin_count(&self.store, pin, base)? == count)
     }
 
-    // Whether a map has these pages, pinned as they stand and read behind two more savepoints, and
+    // Whether a map has these pages, pinned as they stand and read after two more savepoints, and
     // gives back four blocks: those of the first two pages, of a leaf and of the root.
     fn keeps_pinned(&mut self, base: u64, pages: Pages8) -> Result<bool, Fail> {
         let pin = pin(&mut self.store)?;

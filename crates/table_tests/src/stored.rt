@@ -110,7 +110,7 @@ impl StoredRows {
         Ok(found)
     }
 
-    // The first row of a table behind a key; false where there is none.
+    // The first row of a table after a key; false where there is none.
     pub(crate) fn scan_next(
         &mut self,
         table: Table,

@@ -1,6 +1,6 @@
 -- The transactions that are kept against those of the machine.
 --     stands-none, stands-took, stands-changed, stands-ended, stands-committed      they stand for a world at first, after a lock, a change, an end and a commit
---     same-holder, same-row, same-net, same-bytes, same-count      what is told of them is what the machine has
+--     same-holder, same-row, same-net, same-bytes, same-count      what is known of them is what the machine has
 use Rattle.std.proofs.Common.{◌≡◌, refl, sym, ap, ◌∙◌, ℕ, Bool, true, false, not, ◌==◌, cond, List, [], ◌∷◌, ◌++◌, None, unwrap_or, length, IsTrue, arith}
 use Rattle.std.proofs.lemmas.Bool.{eqb-true, eqb-false, ne_eqb, eq-eqb}
 use Rattle.std.specs.Ordering.{nat_cmp}
@@ -18,13 +18,13 @@ use Rattle.sorted_places.proofs.Tests.{tie-eqb}
 use Rattle.record_locks.specs.Holders.{bars, holder_in}
 use Rattle.record_locks.proofs.Agreement.{holder-agrees, agrees-none, agrees-locked, agrees-changed, agrees-ended, numbered-none, numbered-with, numbered-without, transaction-with}
 use Rattle.transactions.specs.Net.{seen_row}
-use Rattle.transactions.specs.Ongoing.{Ongoing, changes_of, Took, Changed, Ended}
+use Rattle.transactions.specs.Ongoing.{Ongoing, changes_of, AddsLock, AddsChange, EndsTransaction}
 use Rattle.transactions.specs.Calls.{bytes_with}
-use Rattle.transactions.specs.Standing.{StandsFor}
+use Rattle.transactions.specs.Standing.{MatchesWorld}
 use Rattle.transactions.proofs.NetChanges.{last_push, visible_row, none_changed, changed_none}
 
--- What is told is what the machine has
-module _ (x : Ongoing) (w : World) (stands : StandsFor x w) (session : ℕ) where
+-- What is known is what the machine has
+module _ (x : Ongoing) (w : World) (stands : MatchesWorld x w) (session : ℕ) where
   -- the session that is named for a lock
   pub same-holder : (lock : Lock) → holder_in x.locks session lock ≡ holder w session lock
   same-holder lock = holder-agrees x.locks w stands.numbered stands.locks session lock
@@ -65,7 +65,7 @@ module _ (x : Ongoing) (w : World) (stands : StandsFor x w) (session : ℕ) wher
 
 -- They stand for a world
 
-pub stands-none : (x : Ongoing) (w : World) → ((session : ℕ) (lock : Lock) → bars x.locks session lock ≡ false) → ((session : ℕ) → changes_of x session ≡ empty) → w.sessions ≡ empty → StandsFor x w
+pub stands-none : (x : Ongoing) (w : World) → ((session : ℕ) (lock : Lock) → bars x.locks session lock ≡ false) → ((session : ℕ) → changes_of x session ≡ empty) → w.sessions ≡ empty → MatchesWorld x w
 stands-none x w free none begun = record {
   locks = agrees-none x.locks w free begun;
   changes = λ session is. none session
@@ -75,9 +75,9 @@ stands-none x w free none begun = record {
   numbered = numbered-none w begun;
 }
 
-module _ (x y : Ongoing) (w : World) (stands : StandsFor x w) (session : ℕ) (is : IsTrue (is_session session)) where
+module _ (x y : Ongoing) (w : World) (stands : MatchesWorld x w) (session : ℕ) (is : IsTrue (is_session session)) where
   -- one more lock
-  pub stands-took : (lock : Lock) → Took x y session lock → StandsFor y (locked w session lock)
+  pub stands-took : (lock : Lock) → AddsLock x y session lock → MatchesWorld y (locked w session lock)
   stands-took lock took = record {
     locks = agrees-locked x.locks y.locks w session lock took.taken stands.locks;
     changes = λ other numbered.
@@ -93,7 +93,7 @@ module _ (x y : Ongoing) (w : World) (stands : StandsFor x w) (session : ℕ) (i
     by_session other false apart = refl
 
   -- one more change
-  pub stands-changed : (change : Change) → Changed x y session change → StandsFor y (changed w session change)
+  pub stands-changed : (change : Change) → AddsChange x y session change → MatchesWorld y (changed w session change)
   stands-changed change done = record {
     locks = agrees-changed x.locks y.locks w session (ExclusiveKey (place_of change)) done.taken stands.locks change refl;
     changes = λ other numbered. done.changes other ∙ by_session other numbered (other == session) refl ∙ ap (λ (t : Transaction). last_changes t.changes) (sym (transaction-with w session _ other));
@@ -107,7 +107,7 @@ module _ (x y : Ongoing) (w : World) (stands : StandsFor x w) (session : ℕ) (i
     by_session other numbered false apart = stands.changes other numbered
 
   -- the session has ended
-  pub stands-ended : Ended x y session → StandsFor y (without_transaction w session)
+  pub stands-ended : EndsTransaction x y session → MatchesWorld y (without_transaction w session)
   stands-ended ended = record {
     locks = agrees-ended x.locks y.locks w session ended.locks stands.locks;
     changes = λ other numbered. ended.changes other ∙ by_session other numbered (other == session)
@@ -120,5 +120,5 @@ module _ (x y : Ongoing) (w : World) (stands : StandsFor x w) (session : ℕ) (i
     by_session other numbered false = stands.changes other numbered
 
   -- and its changes are the next commit
-  pub stands-committed : Ended x y session → StandsFor y (committed_by w session)
+  pub stands-committed : EndsTransaction x y session → MatchesWorld y (committed_by w session)
   stands-committed ended = record { locks = (stands-ended ended).locks; changes = (stands-ended ended).changes; numbered = (stands-ended ended).numbered }

@@ -15,11 +15,11 @@ use Rattle.mdb_model.specs.declared.change.Change.TheVariants.{Put, Del}
 use Rattle.mdb_model.specs.Tables.{Place, Tables, place_cmp, place_of, with_change, with_changes}
 use Rattle.mdb_model.specs.Sessions.{last_changes}
 use Rattle.sorted_places.proofs.Places.{place_total, place_exact}
-use Rattle.transactions.specs.Net.{seen_row, placed}
+use Rattle.transactions.specs.Net.{seen_row, keyed_change}
 
 -- the last change comes first
-reversed-push : (cs : List Change) (c : Change) → reverse (map placed (cs ++ c ∷ [])) ≡ placed c ∷ reverse (map placed cs)
-reversed-push cs c = ap reverse (map-append placed cs (c ∷ [])) ∙ reverse-append (map placed cs) (placed c ∷ [])
+reversed-push : (cs : List Change) (c : Change) → reverse (map keyed_change (cs ++ c ∷ [])) ≡ keyed_change c ∷ reverse (map keyed_change cs)
+reversed-push cs c = ap reverse (map-append keyed_change cs (c ∷ [])) ∙ reverse-append (map keyed_change cs) (keyed_change c ∷ [])
 
 pub last_push : (cs : List Change) (c : Change) → last_changes (cs ++ c ∷ []) ≡ insert (last_changes cs) (place_of c) c
 last_push cs c = ap (λ es. from_entries {R = place_cmp} es) (reversed-push cs c)
@@ -34,7 +34,7 @@ or_else-cond true x a b = refl
 or_else-cond false x a b = refl
 
 find-behind : (place : Place) (es : List (Place × Change)) (c : Change)
-    → find place_cmp place (es ++ placed c ∷ []) ≡ or_else (find place_cmp place es) (cond (eq_by_cmp place_cmp place (place_of c)) (Some c) None)
+    → find place_cmp place (es ++ keyed_change c ∷ []) ≡ or_else (find place_cmp place es) (cond (eq_by_cmp place_cmp place (place_of c)) (Some c) None)
 find-behind place [] c = refl
 find-behind place (e ∷ es) c =
     ap (cond (eq_by_cmp place_cmp place e.0) (Some e.1)) (find-behind place es c)
@@ -44,10 +44,10 @@ find-behind place (e ∷ es) c =
 last_front : (c : Change) (cs : List Change) (place : Place)
     → get (last_changes (c ∷ cs)) place ≡ or_else (get (last_changes cs) place) (cond (eq_by_cmp place_cmp place (place_of c)) (Some c) None)
 last_front c cs place =
-    get-from_entries place_total (reverse (map placed (c ∷ cs))) place
-    ∙ ap (find place_cmp place) (reverse-append (placed c ∷ []) (map placed cs))
-    ∙ find-behind place (reverse (map placed cs)) c
-    ∙ ap (λ o. or_else o (cond (eq_by_cmp place_cmp place (place_of c)) (Some c) None)) (sym (get-from_entries place_total (reverse (map placed cs)) place))
+    get-from_entries place_total (reverse (map keyed_change (c ∷ cs))) place
+    ∙ ap (find place_cmp place) (reverse-append (keyed_change c ∷ []) (map keyed_change cs))
+    ∙ find-behind place (reverse (map keyed_change cs)) c
+    ∙ ap (λ o. or_else o (cond (eq_by_cmp place_cmp place (place_of c)) (Some c) None)) (sym (get-from_entries place_total (reverse (map keyed_change cs)) place))
 
 -- one change alone
 with_change-row : (c : Change) (tables : Tables) (place : Place)

@@ -5,7 +5,7 @@
 --     found_fits, found_within, group-with      a change that is found, and the bytes of a group with one more change
 --     with_put, values-put      the values after a put, of the list and of the map
 --     put-map, put-kept      the entries after a put: their map, and that they are kept
---     rest_behind      the entries behind a place
+--     rest_behind      the entries after a place
 use Rattle.std.proofs.Common.{◌≡◌, refl, sym, ap, ◌∙◌, subst, ℕ, zero, suc, ◌+◌, ◌<◌, ◌≤◌, Bool, true, false, not, ◌&&◌, cond, T, List, [], ◌∷◌, map, filter, drop, length, get_or, Ordering, Some, None, unwrap_or, option_map, IsTrue, arith}
 use Rattle.std.specs.List.{list_all, sum_by, AllByRecursion}
 use Rattle.std.specs.List.Sorted.{IsStrictlySortedBy}
@@ -20,34 +20,35 @@ use Rattle.std.specs.FinMap.Entries.{by_order, below_all}
 use Rattle.std.proofs.lemmas.List.{length-map}
 use Rattle.std.proofs.lemmas.Map.Entries.{sum_by-insert_entry}
 use Rattle.std.proofs.lemmas.List.Sums.{sum_by-cons}
+use Rattle.mdb_bytes.proofs.Booleans.{first_holds, second_holds}
 use Rattle.mdb_model.specs.declared.change.Change.{Change}
 use Rattle.mdb_model.specs.Tables.{Place, place_cmp, place_of}
 use Rattle.mdb_model.specs.Sessions.{change_bytes, group_bytes}
 use Rattle.mdb_bytes.specs.Fields.{rises}
 use Rattle.mdb_bytes.specs.Groups.{change_fits, longest_group}
 use Rattle.sorted_places.specs.Search.{IsPast}
-use Rattle.transactions.specs.Net.{placed, AreKept}
+use Rattle.transactions.specs.Net.{keyed_change, AreNetByPlace}
 use Rattle.sorted_places.proofs.Places.{place_total, place_exact}
 use Rattle.sorted_places.proofs.Sorted.{sorted_from_rises, sorted-index, turned}
 use Rattle.sorted_places.proofs.SortedMaps.{from_put, ascends-put}
 
-pub values-placed : (cs : List Change) → map (λ e. e.1) (map placed cs) ≡ cs
+pub values-placed : (cs : List Change) → map (λ e. e.1) (map keyed_change cs) ≡ cs
 values-placed [] = refl
 values-placed (c ∷ cs) = ap (λ rest. c ∷ rest) (values-placed cs)
 
 module _ (cs : List Change) (ascend : IsTrue (rises place_cmp (map place_of cs))) where
-  entries_of : entries (from_sorted {R = place_cmp} (map placed cs)) ≡ map placed cs
-  entries_of = entries-from_sorted place_cmp (map placed cs) (sorted_from_rises place_cmp place_of (λ change. change) cs ascend)
+  entries_of : entries (from_sorted {R = place_cmp} (map keyed_change cs)) ≡ map keyed_change cs
+  entries_of = entries-from_sorted place_cmp (map keyed_change cs) (sorted_from_rises place_cmp place_of (λ change. change) cs ascend)
 
-  pub values_from : values (from_sorted {R = place_cmp} (map placed cs)) ≡ cs
+  pub values_from : values (from_sorted {R = place_cmp} (map keyed_change cs)) ≡ cs
   values_from = ap (map (λ e. e.1)) entries_of ∙ values-placed cs
 
-  pub len_of : len (from_sorted {R = place_cmp} (map placed cs)) ≡ length cs
-  len_of = len-entries (from_sorted {R = place_cmp} (map placed cs)) ∙ ap length entries_of ∙ length-map cs placed
+  pub len_of : len (from_sorted {R = place_cmp} (map keyed_change cs)) ≡ length cs
+  len_of = len-entries (from_sorted {R = place_cmp} (map keyed_change cs)) ∙ ap length entries_of ∙ length-map cs keyed_change
 
 -- the values after a put
 abbrev pub with_put : List Change → Change → List Change
-with_put cs c = map (λ e. e.1) (put place_cmp (place_of c) c (map placed cs))
+with_put cs c = map (λ e. e.1) (put place_cmp (place_of c) c (map keyed_change cs))
 
 both_true : (a b : Bool) → IsTrue a → IsTrue b → IsTrue (a && b)
 both_true a b p q = (λ i. p i && q i)
@@ -93,41 +94,33 @@ less_is Less is = refl
 less_is Equal is = absurd is
 less_is Greater is = absurd is
 
-first : (a b : Bool) → T (a && b) → T a
-first true b p = tt
-first false b p = p
-
-second : (a b : Bool) → T (a && b) → T b
-second true b p = p
-second false b p = absurd p
-
 -- entries that rise, as std says it
 strictly_below : (place : Place) (es : List (Place × Change)) → T (below_all place_cmp place es)
     → AllByRecursion (λ other. place_cmp place other ≡ Less) (keys_of es)
 strictly_below place [] below = tt
 strictly_below place (e ∷ es) below =
-    (less_is (place_cmp place e.0) (first _ _ below), strictly_below place es (second _ _ below))
+    (less_is (place_cmp place e.0) (first_holds _ _ below), strictly_below place es (second_holds _ _ below))
 
 strictly : (es : List (Place × Change)) → T (is_sorted place_cmp es)
     → IsStrictlySortedBy place_cmp (keys_of es)
 unfolding IsStrictlySortedBy
 strictly [] sorted = tt
 strictly (e ∷ es) sorted = (
-  strictly_below e.0 es (first _ _ sorted),
+  strictly_below e.0 es (first_holds _ _ sorted),
   strictly es
-      (second _ _ sorted),
+      (second_holds _ _ sorted),
 )
 
 -- Entries that are kept
 
-pub sorted_kept : (es : List (Place × Change)) → AreKept es → T (is_sorted place_cmp es)
+pub sorted_kept : (es : List (Place × Change)) → AreNetByPlace es → T (is_sorted place_cmp es)
 sorted_kept es kept =
     subst (λ fs. T (is_sorted place_cmp fs)) (sym kept.own)
     (sorted_from_rises place_cmp place_of (λ change. change) (values_of es) kept.net.ascend)
 
 -- the changes that are kept are the values of their map
-pub kept_values : (es : List (Place × Change)) → AreKept es → (net : FinMap place_cmp Change)
-    → from_sorted {R = place_cmp} (map placed (values_of es)) ≡ net → values_of es ≡ values net
+pub kept_values : (es : List (Place × Change)) → AreNetByPlace es → (net : FinMap place_cmp Change)
+    → from_sorted {R = place_cmp} (map keyed_change (values_of es)) ≡ net → values_of es ≡ values net
 kept_values es kept net is = sym (values_from (values_of es) kept.net.ascend)
     ∙ ap (λ m. values m) is
 
@@ -166,7 +159,7 @@ module _ (place : Place) (c : Change) where
         omega (arith, sum, rest is)
 
 -- the bytes of a group with one more change: it takes the place of an earlier one of its key
-pub group-with : (es : List (Place × Change)) → AreKept es → (place : Place) (c : Change)
+pub group-with : (es : List (Place × Change)) → AreNetByPlace es → (place : Place) (c : Change)
     → group_bytes (values_of (put place_cmp place c es)) + unwrap_or (option_map change_bytes
     (find place_cmp place es)) 0
     ≡ group_bytes (values_of es) + change_bytes c
@@ -192,88 +185,88 @@ put-all test place c (e ∷ es) passes all = by_place (place_cmp place e.0) (put
 
 module _ (old : List Change) (ascend : IsTrue (rises place_cmp (map place_of old))) (c : Change) where
   -- the values after a put are those of the map
-  pub values-put : with_put old c ≡ values (insert (from_sorted {R = place_cmp} (map placed old)) (place_of c) c)
+  pub values-put : with_put old c ≡ values (insert (from_sorted {R = place_cmp} (map keyed_change old)) (place_of c) c)
   values-put =
-      ap (map (λ e. e.1)) (ap (put place_cmp (place_of c) c) (sym (entries_of old ascend)) ∙ sym (entries-insert place_total (from_sorted {R = place_cmp} (map placed old)) (place_of c) c))
+      ap (map (λ e. e.1)) (ap (put place_cmp (place_of c) c) (sym (entries_of old ascend)) ∙ sym (entries-insert place_total (from_sorted {R = place_cmp} (map keyed_change old)) (place_of c) c))
 
 -- a put leaves each change under its own place
 put-placed : (c : Change) (cs : List Change)
-    → put place_cmp (place_of c) c (map placed cs) ≡ map placed (with_put cs c)
+    → put place_cmp (place_of c) c (map keyed_change cs) ≡ map keyed_change (with_put cs c)
 put-placed c [] = refl
 put-placed c (d ∷ cs) = by_cases (put-placed c cs) (place_cmp (place_of c) (place_of d)) refl where
-  by_cases : put place_cmp (place_of c) c (map placed cs) ≡ map placed (with_put cs c)
+  by_cases : put place_cmp (place_of c) c (map keyed_change cs) ≡ map keyed_change (with_put cs c)
       → (o : Ordering) → place_cmp (place_of c) (place_of d) ≡ o
-      → by_order o (placed c ∷ placed d ∷ map placed cs) ((place_of d, c) ∷ map placed cs)
-      (placed d ∷ put place_cmp (place_of c) c (map placed cs))
-      ≡ map placed (map (λ e. e.1) (by_order o (placed c ∷ placed d ∷ map placed cs)
-      ((place_of d, c) ∷ map placed cs) (placed d ∷ put place_cmp (place_of c) c (map placed cs))))
-  by_cases more Less is = ap (λ rest. placed c ∷ placed d ∷ map placed rest) (sym
+      → by_order o (keyed_change c ∷ keyed_change d ∷ map keyed_change cs) ((place_of d, c) ∷ map keyed_change cs)
+      (keyed_change d ∷ put place_cmp (place_of c) c (map keyed_change cs))
+      ≡ map keyed_change (map (λ e. e.1) (by_order o (keyed_change c ∷ keyed_change d ∷ map keyed_change cs)
+      ((place_of d, c) ∷ map keyed_change cs) (keyed_change d ∷ put place_cmp (place_of c) c (map keyed_change cs))))
+  by_cases more Less is = ap (λ rest. keyed_change c ∷ keyed_change d ∷ map keyed_change rest) (sym
       (values-placed cs))
   by_cases more Equal is =
-      (λ i. (sym (place_exact (place_of c) (place_of d) is) i, c) ∷ map placed (sym
+      (λ i. (sym (place_exact (place_of c) (place_of d) is) i, c) ∷ map keyed_change (sym
       (values-placed cs) i))
-  by_cases more Greater is = ap (λ rest. placed d ∷ rest) more
+  by_cases more Greater is = ap (λ rest. keyed_change d ∷ rest) more
 
-module _ (es fs : List (Place × Change)) (kept : AreKept es) (c : Change)
+module _ (es fs : List (Place × Change)) (kept : AreNetByPlace es) (c : Change)
     (is : fs ≡ put place_cmp (place_of c) c es) where
-  is_put : fs ≡ put place_cmp (place_of c) c (map placed (values_of es))
+  is_put : fs ≡ put place_cmp (place_of c) c (map keyed_change (values_of es))
   is_put = is ∙ ap (put place_cmp (place_of c) c) kept.own
 
-  put_own : fs ≡ map placed (values_of fs)
-  put_own = is_put ∙ put-placed c (values_of es) ∙ sym (ap (λ gs. map placed (values_of gs)) is_put)
+  put_own : fs ≡ map keyed_change (values_of fs)
+  put_own = is_put ∙ put-placed c (values_of es) ∙ sym (ap (λ gs. map keyed_change (values_of gs)) is_put)
 
   pub put-list : values_of fs ≡ with_put (values_of es) c
   put-list = ap values_of is_put
 
-  is_placed : map placed (values_of fs) ≡ put place_cmp (place_of c) c (map placed (values_of es))
+  is_placed : map keyed_change (values_of fs) ≡ put place_cmp (place_of c) c (map keyed_change (values_of es))
   is_placed = sym put_own ∙ is_put
 
   -- the values of the map after the put
   pub put-values : (net : FinMap place_cmp Change)
-      → from_sorted {R = place_cmp} (map placed (values_of es)) ≡ net
+      → from_sorted {R = place_cmp} (map keyed_change (values_of es)) ≡ net
       → values_of fs ≡ values (insert net (place_of c) c)
   put-values net same = put-list ∙ values-put (values_of es) kept.net.ascend c
       ∙ ap (λ (m : FinMap place_cmp Change). values (insert m (place_of c) c)) same
 
-  pub put-map : from_sorted {R = place_cmp} (map placed (values_of fs))
-      ≡ insert (from_sorted {R = place_cmp} (map placed (values_of es))) (place_of c) c
-  put-map = from_put place_total (map placed (values_of es)) (map placed (values_of fs))
+  pub put-map : from_sorted {R = place_cmp} (map keyed_change (values_of fs))
+      ≡ insert (from_sorted {R = place_cmp} (map keyed_change (values_of es))) (place_of c) c
+  put-map = from_put place_total (map keyed_change (values_of es)) (map keyed_change (values_of fs))
       (sorted_from_rises place_cmp place_of (λ change. change) (values_of es) kept.net.ascend)
       (place_of c) c is_placed
 
-  pub put-kept : IsTrue (change_fits c) → group_bytes (values_of fs) ≤ longest_group → AreKept fs
+  pub put-kept : IsTrue (change_fits c) → group_bytes (values_of fs) ≤ longest_group → AreNetByPlace fs
   put-kept fits room = record {
     own = put_own;
     net = record {
       ascend = ascends-put place_cmp place_total place_of (λ change. change) (values_of es)
           (values_of fs) kept.net.ascend (place_of c) c is_placed;
       each_fits = subst (λ gs. IsTrue (list_all change_fits (values_of gs))) (sym is_put)
-          (put-all change_fits (place_of c) c (map placed (values_of es)) fits
+          (put-all change_fits (place_of c) c (map keyed_change (values_of es)) fits
           (subst (λ gs. IsTrue (list_all change_fits (values_of gs))) kept.own kept.net.each_fits));
       fit = room;
     };
   }
 
--- The entries behind a place
+-- The entries after a place
 
 module _ (table : ℕ) (after : List ℕ) where
   abbrev is_behind : Place × Change → Bool
   is_behind e = range_contains place_cmp (Excluded (table, after)) Unbounded e.0
 
-  -- what is behind a place that is behind is so too
+  -- what comes after a place that comes after this one comes after this one too
   all_behind : (place : Place) → place_cmp (table, after) place ≡ Less
       → (es : List (Place × Change))
       → T (below_all place_cmp place es) → filter is_behind es ≡ es
   all_behind place less [] below = refl
   all_behind place less (e ∷ es) below =
       let next : place_cmp (table, after) e.0 ≡ Less = place_total.trans
-      (table, after) place e.0 less (less_is (place_cmp place e.0) (first _ _ below)) in
+      (table, after) place e.0 less (less_is (place_cmp place e.0) (first_holds _ _ below)) in
       ap (λ o. cond (is_lt o && not false) (e ∷ filter is_behind es) (filter is_behind es)) next
-      ∙ ap (λ rest. e ∷ rest) (all_behind place less es (second _ _ below))
+      ∙ ap (λ rest. e ∷ rest) (all_behind place less es (second_holds _ _ below))
 
   abbrev Rests : List Change → Type 0
-  Rests cs = (at : ℕ) × IsPast place_of cs table after at × (filter is_behind (map placed cs)
-      ≡ drop at (map placed cs))
+  Rests cs = (at : ℕ) × IsPast place_of cs table after at × (filter is_behind (map keyed_change cs)
+      ≡ drop at (map keyed_change cs))
 
   module _ (c : Change) (cs : List Change) where
     none_behind : Rests cs → is_lt (place_cmp (table, after) (place_of c)) ≡ false → Rests (c ∷ cs)
@@ -284,8 +277,8 @@ module _ (table : ℕ) (after : List ℕ) where
         lower = lower;
         higher = higher;
       },
-      ap (λ b. cond (b && not false) (placed c ∷ filter is_behind (map placed cs))
-          (filter is_behind (map placed cs))) not_less ∙ rest.2,
+      ap (λ b. cond (b && not false) (keyed_change c ∷ filter is_behind (map keyed_change cs))
+          (filter is_behind (map keyed_change cs))) not_less ∙ rest.2,
     ) where
       lower : (j : ℕ) (d : Change) → j < suc rest.0
           → place_cmp (place_of (get_or (c ∷ cs) j d)) (table, after) ≡ Greater → ⊥
@@ -301,7 +294,7 @@ module _ (table : ℕ) (after : List ℕ) where
       higher zero d from inside = absurd (omega (arith, from))
       higher (suc j) d from inside = rest.1.higher j d (omega (arith, from)) (omega (arith, inside))
 
-  pub rest_behind : (cs : List Change) → T (is_sorted place_cmp (map placed cs)) → Rests cs
+  pub rest_behind : (cs : List Change) → T (is_sorted place_cmp (map keyed_change cs)) → Rests cs
   rest_behind [] sorted = (
     0,
     record {
@@ -311,7 +304,7 @@ module _ (table : ℕ) (after : List ℕ) where
     },
     refl,
   )
-  rest_behind (c ∷ cs) sorted = by_cases (rest_behind cs (second _ _ sorted)) (place_cmp
+  rest_behind (c ∷ cs) sorted = by_cases (rest_behind cs (second_holds _ _ sorted)) (place_cmp
       (table, after) (place_of c)) refl where
         by_cases : Rests cs → (o : Ordering) → place_cmp (table, after) (place_of c) ≡ o
             → Rests (c ∷ cs)
@@ -322,10 +315,10 @@ module _ (table : ℕ) (after : List ℕ) where
             lower = λ j d before. absurd (omega (arith, before));
             higher = higher;
           },
-          ap (λ o. cond (is_lt o && not false) (placed c ∷ filter is_behind (map placed cs))
-              (filter is_behind (map placed cs))) is
-              ∙ ap (λ others. placed c ∷ others) (all_behind (place_of c) is (map placed cs)
-              (first _ _ sorted)),
+          ap (λ o. cond (is_lt o && not false) (keyed_change c ∷ filter is_behind (map keyed_change cs))
+              (filter is_behind (map keyed_change cs))) is
+              ∙ ap (λ others. keyed_change c ∷ others) (all_behind (place_of c) is (map keyed_change cs)
+              (first_holds _ _ sorted)),
         ) where
           higher : (j : ℕ) (d : Change) → 0 ≤ j → j < length (c ∷ cs)
               → place_cmp (place_of (get_or (c ∷ cs) j d)) (table, after) ≡ Greater

@@ -4,7 +4,7 @@
 --     locked-ended      where a session has ended
 use Rattle.std.proofs.Common.{◌≡◌, refl, sym, ap, ◌∙◌, subst, ℕ, zero, suc, ◌<◌, Bool, true, false, not, ◌&&◌, ◌||◌, ◌==◌, cond, is_some, List, [], ◌∷◌, Some, Result, Ok, Err, OnOk, OnErr, length, get_or, set, IsTrue, arith}
 use Rattle.std.proofs.lemmas.Bool.{eqb-true, eqb-false, eq-eqb}
-use Rattle.std.proofs.lemmas.List.{get_or-set_same, get_or-set_other}
+use Rattle.std.proofs.lemmas.List.{get_or-set_same, get_or-set_other, get_or_default}
 use Rattle.std.proofs.Math.ListN.{length-set}
 use Rattle.std.specs.Ordering.{eq_by_cmp}
 use Rattle.std.specs.FinMap.{FinMap, get, insert, empty, contains_key, get-insert, get-empty}
@@ -15,10 +15,9 @@ use Rattle.mdb_model.specs.Worlds.{Lock, ShareKey, ExclusiveKey}
 use Rattle.mdb_model.specs.Sessions.{conflict}
 use Rattle.record_locks.specs.declared.fault.LockFault.{LockFault}
 use Rattle.record_locks.specs.declared.fault.LockFault.TheVariants.{Held, Memory}
-use Rattle.record_locks.specs.Holders.{bars, HasLock, Takes, LetGo}
+use Rattle.record_locks.specs.Holders.{bars, HasLock, Acquires, LetGo}
 use Rattle.sorted_places.proofs.Places.{place_total}
 use Rattle.transactions.specs.Locked.{AreLocked}
-use Rattle.transactions.proofs.Numbered.{one_item}
 
 -- nothing is a key of no changes
 no-key : {A : Type 0} (place : Place) → IsTrue (contains_key (empty {X = Change} {R = place_cmp}) place) → A
@@ -42,7 +41,7 @@ module _ (old new : List (List Lock)) (changes : List (FinMap place_cmp Change))
   stays : (session : ℕ) (lock : Lock) → HasLock old new session lock → (other : ℕ) (place : Place) → IsTrue (bars old other (ShareKey place)) → IsTrue (bars new other (ShareKey place))
   stays session lock more other place kept = more other (ShareKey place) ∙ ap (λ b. b || (other == session && conflict (ShareKey place) lock)) kept
 
-  pub locked-takes : (session : ℕ) (lock : Lock) (r : Result (Unit {0}) LockFault) → Takes old new session lock r → AreLocked new changes
+  pub locked-takes : (session : ℕ) (lock : Lock) (r : Result (Unit {0}) LockFault) → Acquires old new session lock r → AreLocked new changes
   locked-takes session lock (Ok done) takes other place there = stays session lock takes.1 other place (locked other place there)
   locked-takes session lock (Err (Held holder)) takes other place there = subst (λ locks. AreLocked locks changes) (sym takes.1) locked other place there
   locked-takes session lock (Err Memory) takes other place there = subst (λ locks. AreLocked locks changes) (sym takes.1) locked other place there
@@ -78,7 +77,7 @@ module _ (old new : List (List Lock)) (changes : List (FinMap place_cmp Change))
           last false = refl
       by_place within false apart some =
           stays session (ExclusiveKey (place_of change)) has session place (locked session place
-          (subst (λ (m : FinMap place_cmp Change). IsTrue (contains_key m place)) (is ∙ one_item changes session own empty within) some))
+          (subst (λ (m : FinMap place_cmp Change). IsTrue (contains_key m place)) (is ∙ get_or_default changes session own empty within) some))
 
       by_session : (b : Bool) → (other == session) ≡ b → IsTrue (bars new other (ShareKey place))
       by_session true same_session =
@@ -93,7 +92,7 @@ module _ (old new : List (List Lock)) (changes : List (FinMap place_cmp Change))
       by_session : (b : Bool) → (other == session) ≡ b → IsTrue (bars new other (ShareKey place))
       by_session true same_session =
           kept other place (subst (λ (m : FinMap place_cmp Change). IsTrue (contains_key m place))
-          (same ∙ is ∙ one_item changes session own empty (inside other place same_session there) ∙ ap (λ k. get_or changes k empty) (sym (eqb-true other session same_session)))
+          (same ∙ is ∙ get_or_default changes session own empty (inside other place same_session there) ∙ ap (λ k. get_or changes k empty) (sym (eqb-true other session same_session)))
           (own-changes other place same_session there))
       by_session false apart = kept other place (other-changes other place apart there)
 

@@ -16,21 +16,21 @@ use Rattle.mdb_model.specs.Sessions.{group_bytes}
 use Rattle.record_locks.specs.Holders.{holder_in, covers, locks_of}
 use Rattle.transactions.specs.declared.fault.TxFault.{TxFault}
 use Rattle.transactions.specs.declared.fault.TxFault.TheVariants.{Locked, TooLarge, Memory, Full, Page}
-use Rattle.transactions.specs.Ongoing.{Ongoing, changes_of, Took, Changed}
+use Rattle.transactions.specs.Ongoing.{Ongoing, changes_of, AddsLock, AddsChange}
 
 -- A call that reads takes its lock. It is refused exactly where another session bars the lock.
--- Where the rows cannot be read, it has the lock. For a lock that it had no memory is wanting.
+-- Where the rows cannot be read, it has the lock. A lock that it had takes no memory.
 abbrev pub TakesLock : {T : Type 0} → (old new : Ongoing) → (session : ℕ) → Lock → Result T TxFault
     → Type 0
 TakesLock old new session lock (Ok value) =
-    (holder_in old.locks session lock ≡ None) × Took old new session lock
+    (holder_in old.locks session lock ≡ None) × AddsLock old new session lock
 TakesLock old new session lock (Err (Locked holder)) =
     (holder_in old.locks session lock ≡ Some holder.0) × (new ≡ old)
 TakesLock old new session lock (Err Memory) =
     (holder_in old.locks session lock ≡ None) × (new ≡ old)
     × (list_any (covers lock) (locks_of old.locks session) ≡ false)
 TakesLock old new session lock (Err (Page fault)) =
-    (holder_in old.locks session lock ≡ None) × Took old new session lock
+    (holder_in old.locks session lock ≡ None) × AddsLock old new session lock
 TakesLock old new session lock (Err (TooLarge bytes)) = ⊥
 TakesLock old new session lock (Err Full) = ⊥
 
@@ -40,25 +40,25 @@ bytes_with x session change =
     group_bytes (values (insert (changes_of x session) (place_of change) change))
 
 -- no session bars the change, and a commit with it is not too large
-abbrev pub IsFree : Ongoing → (session : ℕ) → Change → Type 0
-IsFree x session change =
+abbrev pub IsChangeAllowed : Ongoing → (session : ℕ) → Change → Type 0
+IsChangeAllowed x session change =
     (holder_in x.locks session (ExclusiveKey (place_of change)) ≡ None)
     × (bytes_with x session change ≤ x.most)
 
 -- A change is made, or it is refused: where another session bars it, else where the commit would be
--- too large, else where the blocks do not suffice for it. Memory may be wanting before that.
+-- too large, else where the blocks do not suffice for it. It may be out of memory before that.
 abbrev pub PutDoes : (old new : Ongoing) → (session : ℕ) → Change → (fits : Bool)
     → Result (Unit {0}) TxFault → Type 0
 PutDoes old new session change fits (Ok done) =
-    IsFree old session change × (fits ≡ true) × Changed old new session change
+    IsChangeAllowed old session change × (fits ≡ true) × AddsChange old new session change
 PutDoes old new session change fits (Err (Locked holder)) =
     (holder_in old.locks session (ExclusiveKey (place_of change)) ≡ Some holder.0) × (new ≡ old)
 PutDoes old new session change fits (Err (TooLarge bytes)) =
     (holder_in old.locks session (ExclusiveKey (place_of change)) ≡ None)
     × (bytes ≡ bytes_with old session change) × (old.most < bytes) × (new ≡ old)
-PutDoes old new session change fits (Err Memory) = IsFree old session change × (new ≡ old)
+PutDoes old new session change fits (Err Memory) = IsChangeAllowed old session change × (new ≡ old)
 PutDoes old new session change fits (Err Full) =
-    IsFree old session change × (fits ≡ false) × (new ≡ old)
+    IsChangeAllowed old session change × (fits ≡ false) × (new ≡ old)
 PutDoes old new session change fits (Err (Page fault)) = ⊥
 
 -- A row that the session sees is deleted as a change is made. Where it sees none, there is no
@@ -70,7 +70,7 @@ DelDoes old new session change fits true (Ok false) = ⊥
 DelDoes old new session change fits false (Ok true) = ⊥
 DelDoes old new session change fits false (Ok false) =
     (holder_in old.locks session (ExclusiveKey (place_of change)) ≡ None)
-    × Took old new session (ExclusiveKey (place_of change))
+    × AddsLock old new session (ExclusiveKey (place_of change))
 DelDoes old new session change fits visible (Err (Page fault)) =
     (holder_in old.locks session (ExclusiveKey (place_of change)) ≡ None) × (new ≡ old)
 DelDoes old new session change fits true (Err Memory) =

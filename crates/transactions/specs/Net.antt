@@ -1,9 +1,9 @@
 -- What is kept of the changes of a transaction.
 --     seen_row      the value of a row to a transaction that changed it last so, or not at all
---     placed      a change under its place
+--     keyed_change      a change under its place
 --     AreNet      the last change of each key, within the limits of a group
---     AreKept, net_code      the last change of each key, within the limits of a group; how these
---         are stored
+--     AreNetByPlace, net_code      the last change of each key, within the limits of a group; how
+--         these are stored
 use Rattle.std.specs.Prelude.{◌≡◌, ℕ, ◌≤◌, List, map, Option, Some, None, IsTrue}
 use Rattle.std.specs.List.{list_all}
 use Rattle.std.specs.Coded.{Coded, coded×, coded_ℕ, coded_list}
@@ -27,8 +27,8 @@ abbrev pub place_code : Coded Place
 place_code = coded× coded_ℕ (coded_list coded_ℕ)
 
 -- a change under its place
-abbrev pub placed : Change → Place × Change
-placed change = (place_of change, change)
+abbrev pub keyed_change : Change → Place × Change
+keyed_change change = (place_of change, change)
 
 -- one change of each key, by table and key, each within its limits, and all of them in one group
 pub record AreNet (changes : List Change) : Type 0 where
@@ -37,8 +37,8 @@ pub record AreNet (changes : List Change) : Type 0 where
   pub fit : group_bytes changes ≤ longest_group
 
 -- net changes, each under its own place
-pub record AreKept (entries : List (Place × Change)) : Type 0 where
-  pub own : entries ≡ map placed (values_of entries)
+pub record AreNetByPlace (entries : List (Place × Change)) : Type 0 where
+  pub own : entries ≡ map keyed_change (values_of entries)
   pub net : AreNet (values_of entries)
 
 abbrev pub net_code : Coded (fin.FinMap place_cmp Change)

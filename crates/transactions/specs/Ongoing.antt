@@ -1,8 +1,8 @@
 -- The transactions that are under way.
 --     Ongoing      the locks and the changes of each session, and how many bytes a commit may have
 --     changes_of      the last change of each key of a session
---     Took, Changed, Ended      what is left where a session has one more lock, made a change, or
---         has ended
+--     AddsLock, AddsChange, EndsTransaction      what is left where a session has one more lock,
+--         made a change, or has ended
 use Rattle.std.specs.Prelude.{◌≡◌, refl, ℕ, List, ◌==◌, if◌then◌else◌, slice_index_or}
 use Rattle.std.specs.Coded.{Coded, code_by, coded×, coded⊎, coded_ℕ, coded_list}
 use Rattle.std.specs.FinMap.{FinMap, empty, insert}
@@ -54,20 +54,20 @@ abbrev pub changes_of : Ongoing → ℕ → FinMap place_cmp Change
 changes_of x session = slice_index_or x.changes session empty
 
 -- the session has one more lock, and else all is as before
-pub record Took (old new : Ongoing) (session : ℕ) (lock : Lock) : Type 0 where
+pub record AddsLock (old new : Ongoing) (session : ℕ) (lock : Lock) : Type 0 where
   pub taken : HasLock old.locks new.locks session lock
   pub changes : new.changes ≡ old.changes
   pub most : new.most ≡ old.most
 
 -- the change is the session's last one of its key, which it has locked
-pub record Changed (old new : Ongoing) (session : ℕ) (change : Change) : Type 0 where
+pub record AddsChange (old new : Ongoing) (session : ℕ) (change : Change) : Type 0 where
   pub taken : HasLock old.locks new.locks session (ExclusiveKey (place_of change))
   pub changes : (other : ℕ) → changes_of new other ≡ (if other == session
       then insert (changes_of old session) (place_of change) change else changes_of old other)
   pub most : new.most ≡ old.most
 
 -- the session has no locks and no changes any more
-pub record Ended (old new : Ongoing) (session : ℕ) : Type 0 where
+pub record EndsTransaction (old new : Ongoing) (session : ℕ) : Type 0 where
   pub locks : LetGo old.locks new.locks session
   pub changes : (other : ℕ) → changes_of new other ≡ (if other == session then empty
       else changes_of old other)

@@ -1,6 +1,7 @@
 //! Why a line of a session is refused, or fails.
 ghost use Rattle.std.specs.Prelude.{◌≡◌};
 ghost use Rattle.transactions.specs.Faults.{fault_of};
+ghost use Rattle.transactions.specs.declared.fault.TxFault.TheVariants.{Page};
 
 use mdb_model::fault::PageFault;
 use mdb_model::name::Session;
@@ -28,11 +29,22 @@ pub enum TxFault {
 }
 
 // A lock that is not given, as the fault of a line.
-pub(crate) fn from_lock(fault: LockFault) -> TxFault
-    ensures { result ≡ fault_of fault }
-{
-    match fault {
-        LockFault::Held(holder) => TxFault::Locked(holder),
-        LockFault::Memory => TxFault::Memory,
+impl From<LockFault> for TxFault {
+    ghost from_gives = { λ lock e. e ≡ fault_of lock };
+
+    fn from(lock: LockFault) -> TxFault {
+        match lock {
+            LockFault::Held(holder) => TxFault::Locked(holder),
+            LockFault::Memory => TxFault::Memory,
+        }
+    }
+}
+
+// Rows that could not be read, as the fault of a line.
+impl From<PageFault> for TxFault {
+    ghost from_gives = { λ fault e. e ≡ Page fault };
+
+    fn from(fault: PageFault) -> TxFault {
+        TxFault::Page(fault)
     }
 }

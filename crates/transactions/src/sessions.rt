@@ -9,14 +9,14 @@ ghost use Rattle.mdb_model.specs.Worlds.{Lock, ShareKey, ExclusiveKey, ShareTabl
 ghost use Rattle.mdb_model.specs.Sessions.{group_bytes};
 ghost use Rattle.mdb_bytes.specs.Fields.{rises};
 ghost use Rattle.mdb_bytes.specs.Groups.{change_fits, longest_group};
-ghost use Rattle.mdb_bytes.specs.Held.{IsRow, HasPageCause};
+ghost use Rattle.mdb_bytes.specs.Held.{IsFoundRow, HasPageCause};
 ghost use Rattle.sorted_places.specs.Search.{IsPast};
 ghost use Rattle.record_locks.specs.Holders.{bars, holder_in};
-ghost use Rattle.transactions.specs.Net.{placed, seen_row};
-ghost use Rattle.transactions.specs.Ongoing.{changes_of, Ended};
+ghost use Rattle.transactions.specs.Net.{keyed_change, seen_row};
+ghost use Rattle.transactions.specs.Ongoing.{changes_of, EndsTransaction};
 ghost use Rattle.transactions.specs.Calls.{TakesLock, PutDoes, DelDoes, UnlessPage, HasTxCause, bytes_with};
 
-use crate::fault::{TxFault, from_lock};
+use crate::fault::TxFault;
 use crate::place::ChangePlace;
 use crate::transaction::OpenTransaction;
 use mdb_bytes::Rows;
@@ -70,7 +70,7 @@ fn read_row<R: Rows>(
     requires table { IsTrue (is_table table.0) }
     requires key { IsTrue (is_key key.now) }
     ensures found { R.is_known rows.old → IfOk result
-        (λ found. IsRow found (seen_row (get own.now (table.0, key.now))
+        (λ found. IsFoundRow found (seen_row (get own.now (table.0, key.now))
         (get (R.held rows.old).rows (table.0, key.now))) into.new.items) }
     ensures same { R.is_known rows.old → OnOk result (R.is_known rows.new
         × (R.held rows.new ≡ R.held rows.old)) }
@@ -128,17 +128,18 @@ impl Transactions {
     pub fn get<R: Rows>(
         &mut self,
         rows: &mut R,
-        s: Session,
-        t: Table,
+        session: Session,
+        table: Table,
         key: &Key,
         into: &mut ValueBuf,
     ) -> Result<bool, TxFault>
-        requires session { IsTrue (is_session s.0) }
-        requires table { IsTrue (is_table t.0) }
+        requires session { IsTrue (is_session session.0) }
+        requires table { IsTrue (is_table table.0) }
         requires key { IsTrue (is_key key.now) }
-        ensures locks { TakesLock self.old self.new s.0 (ShareKey (t.0, key.now)) result }
+        ensures locks { TakesLock self.old self.new session.0 (ShareKey (table.0, key.now)) result }
         ensures found { R.is_known rows.old → IfOk result (λ found.
-            IsRow found (seen_row (get (changes_of self.old s.0) (t.0, key.now)) (get (R.held rows.old).rows (t.0, key.now))) into.new.items) }
+            IsFoundRow found (seen_row (get (changes_of self.old session.0) (table.0, key.now))
+            (get (R.held rows.old).rows (table.0, key.now))) into.new.items) }
         ensures same { R.is_known rows.old
             → UnlessPage result (R.is_known rows.new × (R.held rows.new ≡ R.held rows.old)) }
         ensures spare { R.spare rows.old ≤ R.spare rows.new }
@@ -148,26 +149,19 @@ impl Transactions {
             → R.reads_devices rows.old) }
         ensures follows { R.follows rows.old rows.new }
     {
-        match self.locks.share_key(s, t, key) {
-            Ok(()) => {}
-            Err(fault) => return Err(from_lock(fault)),
-        }
-        match read_row(&self.sessions[s.0 as usize], rows, t, key, into) {
-            Ok(found) => Ok(found),
-            Err(fault) => Err(TxFault::Page(fault)),
-        }
+        self.locks.share_key(session, table, key)?;
+        let found = read_row(&self.sessions[session.0 as usize], rows, table, key, into)?;
+        Ok(found)
     }
 
     /// Locks a table for a scan.
-    pub fn scan(&mut self, s: Session, t: Table) -> Result<(), TxFault>
-        requires session { IsTrue (is_session s.0) }
-        ensures locks { TakesLock self.old self.new s.0 (ShareTable t.0) result }
+    pub fn scan(&mut self, session: Session, table: Table) -> Result<(), TxFault>
+        requires session { IsTrue (is_session session.0) }
+        ensures locks { TakesLock self.old self.new session.0 (ShareTable table.0) result }
         ensures no_page { (fault : PageFault) → result ≡ Err (TxFault.Page fault) → ⊥ }
     {
-        match self.locks.share_table(s, t) {
-            Ok(()) => Ok(()),
-            Err(fault) => Err(from_lock(fault)),
-        }
+        self.locks.share_table(session, table)?;
+        Ok(())
     }
 
     /// Puts a value; `fits` says whether the blocks of the data area suffice for it. The rows are
@@ -176,31 +170,31 @@ impl Transactions {
         &mut self,
         rows: &mut R,
         fits: bool,
-        s: Session,
-        t: Table,
+        session: Session,
+        table: Table,
         key: &Key,
         value: &Value,
     ) -> Result<(), TxFault>
-        requires session { IsTrue (is_session s.0) }
-        requires limits { IsTrue (change_fits (Put t key.now value.now)) }
-        ensures does { PutDoes self.old self.new s.0 (Put t key.now value.now) fits result }
+        requires session { IsTrue (is_session session.0) }
+        requires limits { IsTrue (change_fits (Put table key.now value.now)) }
+        ensures does { PutDoes self.old self.new session.0 (Put table key.now value.now) fits result }
         ensures rows { rows.new ≡ rows.old }
     {
         let _ = rows;
-        if let Some(holder) = self.locks.holder(s, t, Some(key), true) {
+        if let Some(holder) = self.locks.holder(session, table, Some(key), true) {
             return Err(TxFault::Locked(holder));
         }
-        let bytes = self.sessions[s.0 as usize].bytes_with_put(t, key, value);
+        let bytes = self.sessions[session.0 as usize].bytes_with_put(table, key, value);
         if self.most < bytes {
             return Err(TxFault::TooLarge(bytes));
         }
-        let Ok(change) = put_of(t, key, value) else {
+        let Ok(change) = put_of(table, key, value) else {
             return Err(TxFault::Memory);
         };
         if !fits {
             return Err(TxFault::Full);
         }
-        self.change(s, t, key, change, bytes)
+        self.change(session, table, key, change, bytes)
     }
 
     /// Deletes the row that the session sees. Where it sees none it answers false, and has the key
@@ -209,17 +203,17 @@ impl Transactions {
         &mut self,
         rows: &mut R,
         fits: bool,
-        s: Session,
-        t: Table,
+        session: Session,
+        table: Table,
         key: &Key,
     ) -> Result<bool, TxFault>
-        requires session { IsTrue (is_session s.0) }
-        requires limits { IsTrue (change_fits (Del t key.now)) }
-        ensures does { (visible : Bool) × DelDoes self.old self.new s.0 (Del t key.now) fits visible
+        requires session { IsTrue (is_session session.0) }
+        requires limits { IsTrue (change_fits (Del table key.now)) }
+        ensures does { (visible : Bool) × DelDoes self.old self.new session.0 (Del table key.now) fits visible
             result
             × (R.is_known rows.old → visible
-            ≡ is_some (seen_row (get (changes_of self.old s.0) (t.0, key.now))
-            (get (R.held rows.old).rows (t.0, key.now)))) }
+            ≡ is_some (seen_row (get (changes_of self.old session.0) (table.0, key.now))
+            (get (R.held rows.old).rows (table.0, key.now)))) }
         ensures same { R.is_known rows.old
             → UnlessPage result (R.is_known rows.new × (R.held rows.new ≡ R.held rows.old)) }
         ensures spare { R.spare rows.old ≤ R.spare rows.new }
@@ -229,14 +223,18 @@ impl Transactions {
             → R.reads_devices rows.old) }
         ensures follows { R.follows rows.old rows.new }
     {
-        if let Some(holder) = self.locks.holder(s, t, Some(key), true) {
+        if let Some(holder) = self.locks.holder(session, table, Some(key), true) {
             return Err(TxFault::Locked(holder));
         }
         let mut seen = ValueBuf::new();
-        match read_row(&self.sessions[s.0 as usize], rows, t, key, &mut seen) {
-            Ok(visible) => self.del_where(visible, fits, s, t, key),
-            Err(fault) => Err(TxFault::Page(fault)),
-        }
+        let visible = read_row(
+            &self.sessions[session.0 as usize],
+            rows,
+            table,
+            key,
+            &mut seen,
+        )?;
+        self.del_where(visible, fits, session, table, key)
     }
 
     // Deletes the row, which the session sees or not.
@@ -244,137 +242,146 @@ impl Transactions {
         &mut self,
         visible: bool,
         fits: bool,
-        s: Session,
-        t: Table,
+        session: Session,
+        table: Table,
         key: &Key,
     ) -> Result<bool, TxFault>
-        requires session { IsTrue (is_session s.0) }
-        requires limits { IsTrue (change_fits (Del t key.now)) }
-        requires free { holder_in self.old.locks s.0 (ExclusiveKey (t.0, key.now)) ≡ None }
-        ensures does { DelDoes self.old self.new s.0 (Del t key.now) fits visible result }
+        requires session { IsTrue (is_session session.0) }
+        requires limits { IsTrue (change_fits (Del table key.now)) }
+        requires free { holder_in self.old.locks session.0 (ExclusiveKey (table.0, key.now)) ≡ None }
+        ensures does { DelDoes self.old self.new session.0 (Del table key.now) fits visible result }
         ensures no_page { (fault : PageFault) → result ≡ Err (TxFault.Page fault) → ⊥ }
     {
         if visible {
-            return match self.del_seen(fits, s, t, key) {
-                Ok(()) => Ok(true),
-                Err(fault) => Err(fault),
-            };
+            self.del_seen(fits, session, table, key)?;
+        } else {
+            self.locks.exclusive_key(session, table, key)?;
         }
-        match self.locks.exclusive_key(s, t, key) {
-            Ok(()) => Ok(false),
-            Err(fault) => Err(from_lock(fault)),
-        }
+        Ok(visible)
     }
 
     // Deletes a row that the session sees.
-    fn del_seen(&mut self, fits: bool, s: Session, t: Table, key: &Key) -> Result<(), TxFault>
-        requires session { IsTrue (is_session s.0) }
-        requires limits { IsTrue (change_fits (Del t key.now)) }
-        requires free { holder_in self.old.locks s.0 (ExclusiveKey (t.0, key.now)) ≡ None }
-        ensures { PutDoes self.old self.new s.0 (Del t key.now) fits result }
+    fn del_seen(
+        &mut self,
+        fits: bool,
+        session: Session,
+        table: Table,
+        key: &Key,
+    ) -> Result<(), TxFault>
+        requires session { IsTrue (is_session session.0) }
+        requires limits { IsTrue (change_fits (Del table key.now)) }
+        requires free { holder_in self.old.locks session.0 (ExclusiveKey (table.0, key.now)) ≡ None }
+        ensures { PutDoes self.old self.new session.0 (Del table key.now) fits result }
     {
-        let bytes = self.sessions[s.0 as usize].bytes_with_del(t, key);
+        let bytes = self.sessions[session.0 as usize].bytes_with_del(table, key);
         if self.most < bytes {
             return Err(TxFault::TooLarge(bytes));
         }
-        let Ok(change) = del_of(t, key) else {
+        let Ok(change) = del_of(table, key) else {
             return Err(TxFault::Memory);
         };
         if !fits {
             return Err(TxFault::Full);
         }
-        self.change(s, t, key, change, bytes)
+        self.change(session, table, key, change, bytes)
     }
 
     // Makes a change that no session bars and that is not too large.
     fn change(
         &mut self,
-        s: Session,
-        t: Table,
+        session: Session,
+        table: Table,
         key: &Key,
         change: Change,
         bytes: u64,
     ) -> Result<(), TxFault>
-        requires session { IsTrue (is_session s.0) }
+        requires session { IsTrue (is_session session.0) }
         requires limits { IsTrue (change_fits change) }
-        requires place { place_of change ≡ (t.0, key.now) }
-        requires bytes { bytes ≡ bytes_with self.old s.0 change }
+        requires place { place_of change ≡ (table.0, key.now) }
+        requires bytes { bytes ≡ bytes_with self.old session.0 change }
         requires small { bytes ≤ self.old.most }
-        requires free { holder_in self.old.locks s.0 (ExclusiveKey (t.0, key.now)) ≡ None }
-        ensures { PutDoes self.old self.new s.0 change true result }
+        requires free { holder_in self.old.locks session.0 (ExclusiveKey (table.0, key.now)) ≡ None }
+        ensures { PutDoes self.old self.new session.0 change true result }
     {
-        match self.sessions[s.0 as usize].change(change, bytes, &mut self.locks, s, t, key) {
+        match self.sessions[session.0 as usize].change(
+            change,
+            bytes,
+            &mut self.locks,
+            session,
+            table,
+            key,
+        ) {
             Ok(()) => Ok(()),
             Err(Memory) => Err(TxFault::Memory),
         }
     }
 
     /// How many keys the session has changed.
-    pub fn changed(&self, s: Session) -> u32
-        requires session { IsTrue (is_session s.0) }
-        ensures count { result ≡ len (changes_of self.now s.0) }
-        ensures each_fits { IsTrue (list_all change_fits (values (changes_of self.now s.0))) }
+    pub fn changed(&self, session: Session) -> u32
+        requires session { IsTrue (is_session session.0) }
+        ensures count { result ≡ len (changes_of self.now session.0) }
+        ensures each_fits { IsTrue (list_all change_fits (values (changes_of self.now session.0))) }
     {
-        self.sessions[s.0 as usize].len()
+        self.sessions[session.0 as usize].len()
     }
 
-    /// The last changes of the session behind a place, by table and key.
+    /// The last changes of the session after a place, by table and key.
     pub fn changes_behind(
         &self,
-        s: Session,
-        t: Table,
+        session: Session,
+        table: Table,
         after: &KeyBuf,
     ) -> Range<'_, ChangePlace, Change>
-        requires session { IsTrue (is_session s.0) }
+        requires session { IsTrue (is_session session.0) }
         ensures behind { (at : ℕ)
-            × IsPast place_of (values (changes_of self.now s.0)) t.0 after.now.items at
-            × (result ≡ drop at (map placed (values (changes_of self.now s.0)))) }
-        ensures ascend { let changes = values (changes_of self.now s.0) in
+            × IsPast place_of (values (changes_of self.now session.0)) table.0 after.now.items at
+            × (result ≡ drop at (map keyed_change (values (changes_of self.now session.0)))) }
+        ensures ascend { let changes = values (changes_of self.now session.0) in
             IsTrue (rises place_cmp (map place_of changes)) }
     {
-        self.sessions[s.0 as usize].behind(t, after)
+        self.sessions[session.0 as usize].behind(table, after)
     }
 
     /// The last change of each key of the session, by table and key, as a commit group has them.
     /// The session has them still. They stand in room that was reserved as they were made: where
     /// they are not committed, `give_back` returns it. It fails only where no more can be counted
     /// that share a key or a value.
-    pub fn listed(&mut self, s: Session) -> Result<Vec<Change>, Memory>
-        requires session { IsTrue (is_session s.0) }
+    pub fn listed(&mut self, session: Session) -> Result<Vec<Change>, Memory>
+        requires session { IsTrue (is_session session.0) }
         ensures same { self.new ≡ self.old }
         ensures value { IfOk result (λ changes.
-            changes.items ≡ values (changes_of self.old s.0)) }
+            changes.items ≡ values (changes_of self.old session.0)) }
         ensures ascend { IfOk result (λ changes.
             IsTrue (rises place_cmp (map place_of changes.items))) }
         ensures each_fits { IfOk result (λ changes.
             IsTrue (list_all change_fits changes.items)) }
         ensures fit { IfOk result (λ changes. group_bytes changes.items ≤ longest_group) }
     {
-        self.sessions[s.0 as usize].listed(self.alloc)
+        self.sessions[session.0 as usize].listed(self.alloc)
     }
 
     /// Takes back the room of changes that were listed and are not committed.
-    pub fn give_back(&mut self, s: Session, listed: Vec<Change>)
-        requires session { IsTrue (is_session s.0) }
+    pub fn give_back(&mut self, session: Session, listed: Vec<Change>)
+        requires session { IsTrue (is_session session.0) }
         ensures { self.new ≡ self.old }
     {
-        self.sessions[s.0 as usize].give_back(listed);
+        self.sessions[session.0 as usize].give_back(listed);
     }
 
     /// Ends the session's transaction without its changes. Where it has none, nothing changes.
-    pub fn rollback(&mut self, s: Session)
-        requires session { IsTrue (is_session s.0) }
-        ensures { Ended self.old self.new s.0 }
+    pub fn rollback(&mut self, session: Session)
+        requires session { IsTrue (is_session session.0) }
+        ensures { EndsTransaction self.old self.new session.0 }
     {
-        self.ended(s);
+        self.ended(session);
     }
 
     /// The session's transaction has ended: it has no locks and no changes any more.
-    pub fn ended(&mut self, s: Session)
-        requires session { IsTrue (is_session s.0) }
-        ensures { Ended self.old self.new s.0 }
+    pub fn ended(&mut self, session: Session)
+        requires session { IsTrue (is_session session.0) }
+        ensures { EndsTransaction self.old self.new session.0 }
     {
-        self.locks.release(s);
-        self.sessions[s.0 as usize].clear();
+        self.locks.release(session);
+        self.sessions[session.0 as usize].clear();
     }
 }

@@ -15,7 +15,7 @@ ghost use Rattle.mdb_bytes.specs.Fields.{rises};
 ghost use Rattle.mdb_bytes.specs.Groups.{change_fits, longest_group};
 ghost use Rattle.sorted_places.specs.Search.{IsPast};
 ghost use Rattle.record_locks.specs.Holders.{holder_in, HasLock};
-ghost use Rattle.transactions.specs.Net.{placed, AreKept};
+ghost use Rattle.transactions.specs.Net.{keyed_change, AreNetByPlace};
 
 use crate::place::{ChangePlace, copied_key};
 use mdb_model::bytes::{Key, KeyBuf, Value};
@@ -55,16 +55,16 @@ impl Model for OpenTransaction {
     ghost use Rattle.mdb_model.specs.declared.change.Change.{Change};
     ghost use Rattle.mdb_model.specs.Tables.{place_cmp};
     ghost use Rattle.mdb_model.specs.Sessions.{group_bytes};
-    ghost use Rattle.transactions.specs.Net.{placed, AreKept, net_code};
+    ghost use Rattle.transactions.specs.Net.{keyed_change, AreNetByPlace, net_code};
 
     ghost Value = { FinMap place_cmp Change };
 
     ghost coded = { net_code };
 
-    ghost view = { λ a. from_sorted (map placed (values_of a.changes.entries)) };
+    ghost view = { λ a. from_sorted (map keyed_change (values_of a.changes.entries)) };
 
     ghost invariant = { λ a. record {
-      kept : AreKept a.changes.entries;
+      kept : AreNetByPlace a.changes.entries;
       counted : a.bytes ≡ group_bytes (values_of a.changes.entries);
     } };
 }
@@ -99,7 +99,7 @@ fn entry_len(key: &[u8], value: &[u8]) -> u64
 // The bytes of the group with one more change of so many bytes: it takes the place of an earlier
 // one of its key.
 fn group_len_with(changes: &ChangesByPlace, bytes: u64, table: Table, key: &Key, added: u64) -> u64
-    requires kept { AreKept changes.now.entries }
+    requires kept { AreNetByPlace changes.now.entries }
     requires counted { bytes ≡ group_bytes (values_of changes.now.entries) }
     requires small { added ≤ 2000 }
     ensures { (change : Change) → place_of change ≡ (table.0, key.now)
@@ -204,10 +204,10 @@ impl OpenTransaction {
         find_change(&self.changes, table, key)
     }
 
-    /// The changes behind a place, by table and key.
+    /// The changes after a place, by table and key.
     pub(crate) fn behind(&self, table: Table, after: &KeyBuf) -> Range<'_, ChangePlace, Change>
         ensures behind { (at : ℕ) × IsPast place_of (values self.now) table.0 after.now.items at
-            × (result ≡ drop at (map placed (values self.now))) }
+            × (result ≡ drop at (map keyed_change (values self.now))) }
         ensures ascend { IsTrue (rises place_cmp (map place_of (values self.now))) }
     {
         let place = ChangePlace::new(table, copied_key(after));

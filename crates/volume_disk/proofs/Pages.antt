@@ -1,31 +1,25 @@
 -- What stands on a page and on a block.
 use Rattle.std.proofs.Common.{◌≡◌, ℕ, ◌+◌, ◌-◌, ◌*◌, ◌<◌, ◌≤◌, min, List, length, take, drop, get_or, sum, Option, None, Some, refl, ap, sym, subst, ◌∙◌, arith, length-take, length-drop}
 use Rattle.std.proofs.lemmas.List.{get_or-take, get_or-drop, ext_get_or}
+use Rattle.mdb_host.proofs.Whole.{same_length}
 use Rattle.mdb_model.specs.declared.fault.Device.{Device}
 use Rattle.mdb_model.specs.declared.fault.Device.TheVariants.{Data}
 use Rattle.mdb_model.specs.Images.{Image, bytes_of, size_of, byte_at}
 use Rattle.mdb_host.specs.Disk.{Has, IsWithin}
-use Rattle.volume_disk.specs.Blocks.{place, page_of, block_at, IsArea}
+use Rattle.volume_disk.specs.Blocks.{place, device_page, block_at, IsArea}
 use Rattle.volume_disk.proofs.Places.{place_is}
-
--- as many bytes
-pub length_is : (a b : Option (List ℕ)) → size_of a ≡ size_of b → length (bytes_of a) ≡ length (bytes_of b)
-length_is None None same = refl
-length_is None (Some y) same = absurd cc
-length_is (Some x) None same = absurd cc
-length_is (Some x) (Some y) same = cc
 
 -- a page of which no byte changed
 pub page_kept : (a b : Image) (d : Device) (p : ℕ) → size_of (b d) ≡ size_of (a d)
-    → ((k : ℕ) → 8192 * p ≤ k → k < 8192 * p + 8192 → byte_at (b d) k ≡ byte_at (a d) k) → page_of b d p ≡ page_of a d p
-unfolding page_of
+    → ((k : ℕ) → 8192 * p ≤ k → k < 8192 * p + 8192 → byte_at (b d) k ≡ byte_at (a d) k) → device_page b d p ≡ device_page a d p
+unfolding device_page
 page_kept a b d p size same = ext_get_or 0 _ _ long each
   where
     bytes : Image → List ℕ
     bytes i = drop (8192 * p) (bytes_of (i d))
 
     long : length (take 8192 (drop (8192 * p) (bytes_of (b d)))) ≡ length (take 8192 (drop (8192 * p) (bytes_of (a d))))
-    long = let e = length_is (b d) (a d) size in simp (length-take, length-drop) (ap (λ (n : ℕ). min 8192 (n - 8192 * p)) e)
+    long = let e = same_length (b d) (a d) size in simp (length-take, length-drop) (ap (λ (n : ℕ). min 8192 (n - 8192 * p)) e)
 
     each : (i : ℕ) → i < length (take 8192 (drop (8192 * p) (bytes_of (b d)))) → get_or (take 8192 (drop (8192 * p) (bytes_of (b d)))) i 0 ≡ get_or (take 8192 (drop (8192 * p) (bytes_of (a d)))) i 0
     each i lt =
@@ -35,13 +29,13 @@ page_kept a b d p size same = ext_get_or 0 _ _ long each
         ∙ sym (get_or-take 8192 _ i 0 small ∙ get_or-drop (8192 * p) (bytes_of (a d)) i 0)
 
 -- a page of a device that is as before
-pub page_agrees : (a b : Image) (d : Device) (p : ℕ) → b d ≡ a d → page_of b d p ≡ page_of a d p
-unfolding page_of
+pub page_agrees : (a b : Image) (d : Device) (p : ℕ) → b d ≡ a d → device_page b d p ≡ device_page a d p
+unfolding device_page
 page_agrees a b d p same = ap (λ (o : Option (List ℕ)). take 8192 (drop (8192 * p) (bytes_of o))) same
 
 -- a page that holds these bytes
-pub has_page : (image : Image) (d : Device) (n p : ℕ) (bytes : List ℕ) → IsWithin image d 0 (8192 * n) → p < n → length bytes ≡ 8192 → Has image d (8192 * p) bytes → page_of image d p ≡ bytes
-unfolding page_of
+pub has_page : (image : Image) (d : Device) (n p : ℕ) (bytes : List ℕ) → IsWithin image d 0 (8192 * n) → p < n → length bytes ≡ 8192 → Has image d (8192 * p) bytes → device_page image d p ≡ bytes
+unfolding device_page
 has_page image d n p bytes within lt long has = ext_get_or 0 _ _ size each
   where
     whole : (o : Option (List ℕ)) (m : ℕ) → size_of o ≡ Some m → length (bytes_of o) ≡ m

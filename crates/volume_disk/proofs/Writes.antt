@@ -5,7 +5,7 @@ use Rattle.mdb_model.specs.declared.fault.Device.TheVariants.{Data, Log, Medium}
 use Rattle.mdb_model.specs.Images.{Image, size_of, byte_at}
 use Rattle.mdb_host.specs.Disk.{Disk, Calls, Goes, Synced, IsThere, Torn, Agree, SameSizes, Outside}
 use Rattle.mdb_host.proofs.Moments.{widen}
-use Rattle.volume_disk.specs.Blocks.{place, IsArea, Writes, AreSettled, IsSettled}
+use Rattle.volume_disk.specs.Blocks.{place, IsArea, Writes, AreVolumesDurable, IsDurable}
 use Rattle.volume_disk.proofs.Places.{Place, place_is, apart}
 use Rattle.volume_disk.proofs.Pages.{page_kept, page_agrees, data_is}
 
@@ -98,12 +98,8 @@ moved_calls sizes b old new v p n there volume page long calls = record {
 pub volume_there : (sizes : List ℕ) (a b : Image) (i : ℕ) → Agree a b → IsArea sizes a → i < length sizes → IsThere b (Data (i + 1))
 volume_there sizes a b i same area lt = let w = area i lt in (w.0, ap size_of (same (Data (i + 1))) ∙ w.1)
 
--- agreeing goes on
-pub agree_on : (a b c : Image) → Agree a b → Agree b c → Agree a c
-agree_on a b c one two e = two e ∙ one e
-
 -- one volume more is synced
-pub settled_more : (old new : Disk) (i : ℕ) → Goes old new Agree → Agree old.seen new.seen → AreSettled i old → Synced new (Data (i + 1)) → AreSettled (i + 1) new
+pub settled_more : (old new : Disk) (i : ℕ) → Goes old new Agree → Agree old.seen new.seen → AreVolumesDurable i old → Synced new (Data (i + 1)) → AreVolumesDurable (i + 1) new
 settled_more old new i goes seen before synced image left k lt = elim (cases_eq k i) [
   | inl is ↦ subst (λ (j : ℕ). image (Data (j + 1)) ≡ new.seen (Data (j + 1))) (sym is) (synced image left)
   | inr other ↦
@@ -112,7 +108,7 @@ settled_more old new i goes seen before synced image left k lt = elim (cases_eq 
 ]
 
 -- every volume is synced, so every block is settled
-pub all_settled : (sizes : List ℕ) (disk : Disk) (n : ℕ) → n ≡ length sizes → AreSettled n disk → IsSettled sizes disk
+pub all_settled : (sizes : List ℕ) (disk : Disk) (n : ℕ) → n ≡ length sizes → AreVolumesDurable n disk → IsDurable sizes disk
 all_settled sizes disk n is all image left b lt =
     let p = place_is 1 sizes b lt in
     let e : p.i + 1 ≡ (place 1 sizes b).0 = omega (arith, p.volume) in

@@ -1,10 +1,10 @@
 -- The data volumes as one row of blocks.
 --     place      the volume and the page of a block
---     page_of, block_at      the bytes of a page and of a block
+--     device_page, block_at      the bytes of a page and of a block
 --     IsArea      the volumes are there with their sizes
 --     Writes      the blocks of a set hold anything, all else is as before
---     IsSettled, AreSettled      a crash leaves of each block, of each of the first volumes, what a
---         read gives
+--     IsDurable, AreVolumesDurable      a crash leaves of each block, of each of the first volumes,
+--         what a read gives
 --     IsCounted      what is kept of the sizes
 use Rattle.std.specs.Prelude.{◌≡◌, ℕ, ◌+◌, ◌-◌, ◌*◌, ◌<◌, ◌≤◌, List, [], ◌∷◌, if◌then◌else◌}
 use Rattle.std.specs.Prelude.{length, take, drop, get_or, sum, nat_lt}
@@ -25,12 +25,12 @@ place v [] b = (v, b)
 place v (n ∷ ns) b = if nat_lt b n then (v, b) else place (v + 1) ns (b - n)
 
 -- the bytes of a page of a device
-unfoldable pub page_of : Image → Device → ℕ → List ℕ
-page_of image d p = take 8192 (drop (8192 * p) (bytes_of (image d)))
+unfoldable pub device_page : Image → Device → ℕ → List ℕ
+device_page image d p = take 8192 (drop (8192 * p) (bytes_of (image d)))
 
 -- the bytes of a block
 abbrev pub block_at : List ℕ → Image → ℕ → List ℕ
-block_at sizes image b = page_of image (Data (place 1 sizes b).0) (place 1 sizes b).1
+block_at sizes image b = device_page image (Data (place 1 sizes b).0) (place 1 sizes b).1
 
 -- each volume is there with as many pages as its size says, or more
 abbrev pub IsArea : List ℕ → Image → Type 0
@@ -47,13 +47,13 @@ pub record Writes (sizes : List ℕ) (set : ℕ → Type 0) (old new : Image) : 
       → byte_at (new (Data (i + 1))) k ≡ byte_at (old (Data (i + 1))) k
 
 -- a crash now leaves of each block what a read gives
-abbrev pub IsSettled : List ℕ → Disk → Type 0
-IsSettled sizes disk =
+abbrev pub IsDurable : List ℕ → Disk → Type 0
+IsDurable sizes disk =
     (image : Image) → disk.may_leave disk.now image → (b : ℕ) → b < sum sizes
     → block_at sizes image b ≡ block_at sizes disk.seen b
 
 -- a crash now leaves of the first n volumes what a read gives
-abbrev pub AreSettled : ℕ → Disk → Type 0
-AreSettled n disk =
+abbrev pub AreVolumesDurable : ℕ → Disk → Type 0
+AreVolumesDurable n disk =
     (image : Image) → disk.may_leave disk.now image → (k : ℕ) → k < n
     → image (Data (k + 1)) ≡ disk.seen (Data (k + 1))

@@ -4,7 +4,7 @@ ghost use Rattle.std.specs.Prelude.{length, sum, OnOk};
 ghost use Rattle.mdb_model.specs.Causes.{HasCause};
 ghost use Rattle.mdb_model.specs.declared.limits.TheConstants.{MOST_BLOCKS};
 ghost use Rattle.mdb_host.specs.Disk.{Calls, Goes, Agree};
-ghost use Rattle.volume_disk.specs.Blocks.{place, block_at, IsArea, Writes, IsSettled};
+ghost use Rattle.volume_disk.specs.Blocks.{place, block_at, IsArea, Writes, IsDurable};
 
 use arrayvec::ArrayVec;
 use mdb_host::{Device, Failed, Host};
@@ -55,12 +55,12 @@ impl Volumes {
     }
 
     /// The volume of a block, from 1 on, and the page there.
-    pub fn place_of(&self, b: u32) -> (u8, u32)
-        requires { b < sum self.now }
-        ensures volume { result.0 ≡ (place 1 self.now b).0 }
-        ensures page { result.1 ≡ (place 1 self.now b).1 }
+    pub fn place_of(&self, block: u32) -> (u8, u32)
+        requires { block < sum self.now }
+        ensures volume { result.0 ≡ (place 1 self.now block).0 }
+        ensures page { result.1 ≡ (place 1 self.now block).1 }
     {
-        let mut rest = b;
+        let mut rest = block;
         let mut volume = 1;
         for n in self.sizes.as_slice() {
             if rest < *n {
@@ -76,18 +76,18 @@ impl Volumes {
     pub fn read_block<H: Host>(
         &self,
         host: &mut H,
-        b: u32,
+        block: u32,
         into: &mut [u8; PAGE_BYTES],
     ) -> Result<(), Failed>
-        requires below { b < sum self.now }
+        requires below { block < sum self.now }
         requires area { H.tells → IsArea self.now (H.disk host.old).seen }
         ensures bytes { OnOk result
-            (H.tells → into.new ≡ block_at self.now (H.disk host.old).seen b) }
+            (H.tells → into.new ≡ block_at self.now (H.disk host.old).seen block) }
         ensures calls { H.tells → Calls (H.disk host.old) (H.disk host.new) Agree }
         ensures cause { HasCause (H.faults host.old) (H.faults host.new) result }
         ensures say_faults { H.say_faults host.new ≡ H.say_faults host.old }
     {
-        let (volume, page) = self.place_of(b);
+        let (volume, page) = self.place_of(block);
         host.read(Device::Data(volume), PAGE_BYTES as u64 * page as u64, into)
     }
 
@@ -96,19 +96,19 @@ impl Volumes {
     pub fn write_block<H: Host>(
         &self,
         host: &mut H,
-        b: u32,
+        block: u32,
         from: &[u8; PAGE_BYTES],
     ) -> Result<(), Failed>
-        requires below { b < sum self.now }
+        requires below { block < sum self.now }
         requires area { H.tells → IsArea self.now (H.disk host.old).seen }
         ensures calls { H.tells
-            → Calls (H.disk host.old) (H.disk host.new) (Writes self.now (λ c. c ≡ b)) }
+            → Calls (H.disk host.old) (H.disk host.new) (Writes self.now (λ c. c ≡ block)) }
         ensures written { OnOk result
-            (H.tells → block_at self.now (H.disk host.new).seen b ≡ from.now) }
+            (H.tells → block_at self.now (H.disk host.new).seen block ≡ from.now) }
         ensures cause { HasCause (H.faults host.old) (H.faults host.new) result }
         ensures say_faults { H.say_faults host.new ≡ H.say_faults host.old }
     {
-        let (volume, page) = self.place_of(b);
+        let (volume, page) = self.place_of(block);
         host.write(Device::Data(volume), PAGE_BYTES as u64 * page as u64, from)
     }
 
@@ -120,7 +120,7 @@ impl Volumes {
         ensures seen { H.tells → Agree (H.disk host.old).seen (H.disk host.new).seen }
         ensures moments { H.tells
             → (H.disk host.new).now ≤ (H.disk host.old).now + length self.now }
-        ensures settled { OnOk result (H.tells → IsSettled self.now (H.disk host.new)) }
+        ensures settled { OnOk result (H.tells → IsDurable self.now (H.disk host.new)) }
         ensures cause { HasCause (H.faults host.old) (H.faults host.new) result }
         ensures say_faults { H.say_faults host.new ≡ H.say_faults host.old }
     {

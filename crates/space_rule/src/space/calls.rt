@@ -9,27 +9,27 @@ ghost use Rattle.mdb_model.specs.Script.{is_session, is_table};
 ghost use Rattle.mdb_model.specs.Tables.{place_of};
 ghost use Rattle.mdb_bytes.specs.Groups.{change_fits};
 ghost use Rattle.space_rule.specs.declared.open_change.OpenChange.{OpenChange};
-ghost use Rattle.space_rule.specs.Told.{
+ghost use Rattle.space_rule.specs.KnownCosts.{
   changes_at,
   ended,
   growth_of,
   loaded,
   need_of,
   noted,
-  opened,
-  pages_of,
+  opened_change,
+  all_table_pages,
   prepared_for,
   session_undo,
-  size_of,
+  logical_size,
   undo_cost,
   undo_of,
   with_area,
   with_noted,
   with_open,
 };
-ghost use Rattle.space_rule.specs.Spaces.{told_of};
-ghost use Rattle.space_rule.specs.Settling.{IsSettled};
-ghost use Rattle.space_rule.specs.Weighing.{lists, HasRoom, IsInOrder};
+ghost use Rattle.space_rule.specs.Spaces.{known_costs};
+ghost use Rattle.space_rule.specs.Settling.{IsChangeSettled};
+ghost use Rattle.space_rule.specs.Weighing.{lists, HasChangeRoom, IsInOrder};
 
 use crate::costs::{
     converter_page_count, growth, image_cost, row_cost, table_page_count, undo_page_count,
@@ -62,7 +62,7 @@ pub(crate) struct Settled {
 }
 
 fn table_of(change: &Change) -> Table
-    ensures table { (before : _) → result ≡ (opened change.now before).table }
+    ensures table { (before : _) → result ≡ (opened_change change.now before).table }
     ensures place { result.0 ≡ (place_of change.now).0 }
 {
     match change {
@@ -72,7 +72,7 @@ fn table_of(change: &Change) -> Table
 }
 
 fn key_of(change: &Change) -> &Key
-    ensures key { (before : _) → result.now ≡ (opened change.now before).key }
+    ensures key { (before : _) → result.now ≡ (opened_change change.now before).key }
     ensures place { result.now ≡ (place_of change.now).1 }
 {
     match change {
@@ -84,7 +84,7 @@ fn key_of(change: &Change) -> &Key
 // The length of the value that the row has after the change.
 fn len_after(change: &Change) -> Option<u16>
     requires { IsTrue (change_fits change.now) }
-    ensures { (before : _) → result ≡ (opened change.now before).now }
+    ensures { (before : _) → result ≡ (opened_change change.now before).now }
 {
     match change {
         Change::Put(_, _, value) => Some(value.bytes().len() as u16),
@@ -177,7 +177,7 @@ fn reserve_one(changes: &mut Vec<OpenChange>) -> Result<(), Memory>
 // Takes the memory for one more change of each session.
 fn reserve_each(sessions: &mut [Vec<OpenChange>; SESSIONS]) -> Result<(), Memory>
     ensures same { lists sessions.new ≡ lists sessions.old }
-    ensures room { OnOk result (HasRoom sessions.new) }
+    ensures room { OnOk result (HasChangeRoom sessions.new) }
 {
     for session in 0..SESSIONS {
         reserve_one(&mut sessions[session])?;
@@ -189,7 +189,7 @@ impl Space {
     /// An area of this number of blocks, with no rows, no open changes and nothing kept. It takes
     /// no memory.
     pub fn new(alloc: Global, blocks: u32) -> Space
-        ensures { told_of result
+        ensures { known_costs result
             ≡ record {
               blocks = blocks;
               kept = 0;
@@ -214,7 +214,7 @@ impl Space {
 
     /// The logical pages that the database may have now.
     pub fn size(&self) -> u64
-        ensures size { result ≡ size_of (told_of self.now) }
+        ensures size { result ≡ logical_size (known_costs self.now) }
         ensures small { result ≤ 2 ^ 62 }
     {
         self.pages + self.undo + 2
@@ -222,41 +222,41 @@ impl Space {
 
     /// The blocks that the database needs.
     pub fn need(&self) -> u64
-        ensures { result ≡ need_of (told_of self.now) }
+        ensures { result ≡ need_of (known_costs self.now) }
     {
         2 + self.size() + 2 * converter_page_count(self.blocks) + self.kept
     }
 
     // The sums with one more change of a session.
-    fn weighed(&self, s: Session, change: &Change, before: Option<usize>) -> Weighed
-        requires session { IsTrue (is_session s.0) }
+    fn weighed(&self, session: Session, change: &Change, before: Option<usize>) -> Weighed
+        requires session { IsTrue (is_session session.0) }
         requires limits { IsTrue (change_fits change.now) }
         requires before { ForSome before (λ n. n ≤ 1500) }
         // The result.
         ensures grown { result.weight.grown
             ≡ growth_of (place_of change.now).0
-            (with_noted (told_of self.now).sessions s.0 change.now before) }
+            (with_noted (known_costs self.now).sessions session.0 change.now before) }
         ensures bytes { result.weight.bytes
             ≡ sum_by undo_cost
-            (with_open (opened change.now before)
-            (changes_at (told_of self.now).sessions s.0)) }
+            (with_open (opened_change change.now before)
+            (changes_at (known_costs self.now).sessions session.0)) }
         ensures pages { result.pages
-            ≡ pages_of self.now.committed
-            (with_noted (told_of self.now).sessions s.0 change.now before) }
+            ≡ all_table_pages self.now.committed
+            (with_noted (known_costs self.now).sessions session.0 change.now before) }
         ensures undo { result.undo
-            ≡ undo_of (with_noted (told_of self.now).sessions s.0 change.now before) }
+            ≡ undo_of (with_noted (known_costs self.now).sessions session.0 change.now before) }
         ensures small { (result.pages ≤ 2 ^ 62) × (result.undo ≤ 2 ^ 61) }
     {
         let table = table_of(change);
         let index = table.0 as usize;
-        let session = s.0 as usize;
+        let number = session.0 as usize;
         let old = Weight {
             grown: self.grown[index],
-            bytes: self.undo_bytes[session],
+            bytes: self.undo_bytes[number],
         };
         let key = key_of(change).bytes();
         let weight = weight_with(
-            &self.sessions[session],
+            &self.sessions[number],
             old,
             table,
             key,
@@ -275,13 +275,13 @@ impl Space {
     /// The blocks that the database would need with one more change of a session. `before` is the
     /// length in bytes of the value that the session sees at the key, none where it sees no row.
     /// Only the length at a session's first change of a key counts.
-    pub fn would_need(&self, s: Session, change: &Change, before: Option<usize>) -> u64
-        requires session { IsTrue (is_session s.0) }
+    pub fn would_need(&self, session: Session, change: &Change, before: Option<usize>) -> u64
+        requires session { IsTrue (is_session session.0) }
         requires limits { IsTrue (change_fits change.now) }
         requires before { ForSome before (λ n. n ≤ 1500) }
-        ensures { result ≡ need_of (noted (told_of self.now) s.0 change.now before) }
+        ensures { result ≡ need_of (noted (known_costs self.now) session.0 change.now before) }
     {
-        let weighed = self.weighed(s, change, before);
+        let weighed = self.weighed(session, change, before);
         let size = weighed.pages + weighed.undo + 2;
         2 + size + 2 * converter_page_count(self.blocks) + self.kept
     }
@@ -290,8 +290,9 @@ impl Space {
     /// nothing is prepared; else all is as it was.
     pub fn prepare(&mut self, change: &Change) -> Result<(), Memory>
         ensures ok { OnOk result
-            (told_of self.new ≡ prepared_for (told_of self.old) (Some (place_of change.now))) }
-        ensures err { OnErr result (told_of self.new ≡ prepared_for (told_of self.old) None) }
+            (known_costs self.new ≡ prepared_for (known_costs self.old)
+            (Some (place_of change.now))) }
+        ensures err { OnErr result (known_costs self.new ≡ prepared_for (known_costs self.old) None) }
     {
         self.prepared = None;
         let key = key_of(change).copy(self.alloc)?;
@@ -301,26 +302,26 @@ impl Space {
     }
 
     /// Counts one more change of a session, as `would_need` weighs it. It takes no memory.
-    pub fn note(&mut self, s: Session, change: &Change, before: Option<usize>)
-        requires session { IsTrue (is_session s.0) }
+    pub fn note(&mut self, session: Session, change: &Change, before: Option<usize>)
+        requires session { IsTrue (is_session session.0) }
         requires limits { IsTrue (change_fits change.now) }
         requires before { ForSome before (λ n. n ≤ 1500) }
-        requires prepared { (told_of self.old).prepared ≡ Some (place_of change.now) }
-        requires small { need_of (noted (told_of self.old) s.0 change.now before) ≤ 2 ^ 32 }
-        ensures { told_of self.new ≡ noted (told_of self.old) s.0 change.now before }
+        requires prepared { (known_costs self.old).prepared ≡ Some (place_of change.now) }
+        requires small { need_of (noted (known_costs self.old) session.0 change.now before) ≤ 2 ^ 32 }
+        ensures { known_costs self.new ≡ noted (known_costs self.old) session.0 change.now before }
     {
-        let weighed = self.weighed(s, change, before);
+        let weighed = self.weighed(session, change, before);
         let index = table_of(change).0 as usize;
-        let session = s.0 as usize;
+        let number = session.0 as usize;
         let taken = self.prepared.take();
         place_open(
-            &mut self.sessions[session],
+            &mut self.sessions[number],
             taken,
             short_len(before),
             len_after(change),
         );
         self.grown[index] = weighed.weight.grown;
-        self.undo_bytes[session] = weighed.weight.bytes;
+        self.undo_bytes[number] = weighed.weight.bytes;
         self.pages = weighed.pages;
         self.undo = weighed.undo;
     }
@@ -328,20 +329,20 @@ impl Space {
     /// Sets the blocks of the area, and what is kept for snapshots and a backup under way.
     pub fn set_area(&mut self, blocks: u32, kept: u64)
         requires { kept < 2 ^ 62 }
-        ensures { told_of self.new ≡ with_area (told_of self.old) blocks kept }
+        ensures { known_costs self.new ≡ with_area (known_costs self.old) blocks kept }
     {
         self.blocks = blocks;
         self.kept = kept;
     }
 
     /// Sets what the committed rows of a table cost in bytes. No change may be open.
-    pub fn load(&mut self, t: Table, bytes: u64)
-        requires table { IsTrue (is_table t.0) }
+    pub fn load(&mut self, table: Table, bytes: u64)
+        requires table { IsTrue (is_table table.0) }
         requires small { bytes < 2 ^ 62 }
-        requires none { (i : ℕ) → changes_at (told_of self.old).sessions i ≡ [] }
-        ensures { told_of self.new ≡ loaded (told_of self.old) t.0 bytes }
+        requires none { (i : ℕ) → changes_at (known_costs self.old).sessions i ≡ [] }
+        ensures { known_costs self.new ≡ loaded (known_costs self.old) table.0 bytes }
     {
-        let index = t.0 as usize;
+        let index = table.0 as usize;
         let old = table_page_count(self.committed[index] + self.grown[index]);
         self.pages = self.pages - old + table_page_count(bytes);
         self.committed[index] = bytes;
@@ -352,13 +353,13 @@ impl Space {
         requires { session < 65 }
         ensures some { IfSome result
             (λ settled. (xs : List OpenChange) (x : OpenChange)
-            → changes_at (told_of self.now).sessions session ≡ xs ++ x ∷ []
-            → IsSettled self.now.committed self.now.grown (told_of self.now).sessions
+            → changes_at (known_costs self.now).sessions session ≡ xs ++ x ∷ []
+            → IsChangeSettled self.now.committed self.now.grown (known_costs self.now).sessions
             self.now.undo_bytes session is_commit xs x settled) }
         ensures one { IfSome result
-            (λ settled. 0 < length (changes_at (told_of self.now).sessions session)) }
+            (λ settled. 0 < length (changes_at (known_costs self.now).sessions session)) }
         ensures inside { IfSome result (λ settled. settled.index < 501) }
-        ensures none { IfNone result (changes_at (told_of self.now).sessions session ≡ []) }
+        ensures none { IfNone result (changes_at (known_costs self.now).sessions session ≡ []) }
     {
         let changes = self.sessions[session].as_slice();
         if changes.is_empty() {
@@ -372,11 +373,11 @@ impl Space {
     fn settled(&self, session: usize, change: &OpenChange, is_commit: bool) -> Settled
         requires session { session < 65 }
         requires last { (xs : List OpenChange)
-            × (changes_at (told_of self.now).sessions session ≡ xs ++ change.now ∷ []) }
+            × (changes_at (known_costs self.now).sessions session ≡ xs ++ change.now ∷ []) }
         ensures inside { result.index < 501 }
         ensures sums { (xs : List OpenChange)
-            → changes_at (told_of self.now).sessions session ≡ xs ++ change.entry.now ∷ []
-            → IsSettled self.now.committed self.now.grown (told_of self.now).sessions
+            → changes_at (known_costs self.now).sessions session ≡ xs ++ change.entry.now ∷ []
+            → IsChangeSettled self.now.committed self.now.grown (known_costs self.now).sessions
             self.now.undo_bytes session is_commit xs change.entry.now result }
     {
         let index = change.table.0 as usize;
@@ -401,13 +402,13 @@ impl Space {
     // none.
     fn settle_last(&mut self, session: usize, is_commit: bool) -> bool
         requires { session < 65 }
-        ensures settled { ended (told_of self.new) session is_commit
-            ≡ ended (told_of self.old) session is_commit }
+        ensures settled { ended (known_costs self.new) session is_commit
+            ≡ ended (known_costs self.old) session is_commit }
         ensures fewer { OnTrue result
-            (length (changes_at (told_of self.new).sessions session)
-            < length (changes_at (told_of self.old).sessions session)) }
+            (length (changes_at (known_costs self.new).sessions session)
+            < length (changes_at (known_costs self.old).sessions session)) }
         ensures none { OnFalse result
-            (told_of self.new ≡ ended (told_of self.old) session is_commit) }
+            (known_costs self.new ≡ ended (known_costs self.old) session is_commit) }
     {
         self.prepared = None;
         let Some(settled) = self.without_last(session, is_commit) else {
@@ -424,11 +425,11 @@ impl Space {
 
     /// Counts the transaction of a session as ended: its changes are committed rows from now on, or
     /// they are gone. Nothing stays prepared. It takes time for each change of the session.
-    pub fn ended(&mut self, s: Session, committed: bool)
-        requires { IsTrue (is_session s.0) }
-        ensures { told_of self.new ≡ ended (told_of self.old) s.0 committed }
+    pub fn ended(&mut self, session: Session, committed: bool)
+        requires { IsTrue (is_session session.0) }
+        ensures { known_costs self.new ≡ ended (known_costs self.old) session.0 committed }
     {
-        let session = s.0 as usize;
-        while self.settle_last(session, committed) {}
+        let number = session.0 as usize;
+        while self.settle_last(number, committed) {}
     }
 }

@@ -1,5 +1,6 @@
 use Rattle.std.proofs.Common.{ℕ, ◌+◌, ◌∙◌, arith, length-set}
-use Rattle.converter.specs.Maps.{no_entry, entry_at}
+use Rattle.mdb_bytes.specs.Firsts.{no_entry}
+use Rattle.converter.specs.Maps.{entry_at}
 use Rattle.converter.proofs.Runs.{filled_more}
 use Rattle.converter.proofs.kept.run_of.Goals as goal
 

@@ -1,5 +1,6 @@
 use Rattle.std.proofs.Common.{◌≡◌, ℕ, ◌<◌, ◌≤◌}
-use Rattle.converter.specs.Maps.{no_entry, entry_at}
+use Rattle.mdb_bytes.specs.Firsts.{no_entry}
+use Rattle.converter.specs.Maps.{entry_at}
 use Rattle.converter.proofs.load.none_from.Given as goal
 
 abbrev pub invariant-loop-k : goal.invariant-loop-k

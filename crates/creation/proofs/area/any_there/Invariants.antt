@@ -1,5 +1,5 @@
 use Rattle.std.proofs.Common.{◌≡◌, ℕ, ◌<◌, None}
-use Rattle.creation.specs.Devices.{device_at}
+use Rattle.mdb_host.specs.Places.{device_at}
 use Rattle.creation.proofs.area.any_there.Given as goal
 
 abbrev pub invariant-loop-number : goal.invariant-loop-number

@@ -1,5 +1,5 @@
 use Rattle.std.proofs.Common.{◌≡◌, ◌∙◌, ℕ, List, sym, subst, ap, length, get_or, arith}
-use Rattle.creation.specs.Making.{Each, IsFresh}
+use Rattle.creation.specs.Making.{Each, HasZeroVolumes}
 use Rattle.creation.proofs.Fresh.{any_on}
 use Rattle.creation.proofs.area.make_devices.Goals as goal
 
@@ -28,4 +28,4 @@ loop-i-preserved g c = record {
 pub returns-clause-made : goal.returns-clause-made
 returns-clause-made g c told birth =
     let all : c.loop-i.i ≡ length c.args.volumes.now.items = omega (arith, c.loop-i-test.false, c.loop-i.auto.i-end, c.len-i-end.ensures.value) in
-    subst (λ (n : ℕ). Each (g.H.Host.disk c.loop-i.host) (IsFresh (record { birth = birth; volumes = c.args.volumes.now.items; log_pages = c.args.log_pages }) n)) all (c.loop-i.invariant.fresh told birth)
+    subst (λ (n : ℕ). Each (g.H.Host.disk c.loop-i.host) (HasZeroVolumes (record { birth = birth; volumes = c.args.volumes.now.items; log_pages = c.args.log_pages }) n)) all (c.loop-i.invariant.fresh told birth)

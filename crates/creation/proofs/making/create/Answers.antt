@@ -1,6 +1,6 @@
 use Rattle.std.proofs.Common.{refl}
 use Rattle.creation.proofs.Fresh.{empty_all}
-use Rattle.creation.proofs.WholeLaw.{stands_whole}
+use Rattle.standing.proofs.WholeLaw.{fresh_stands}
 use Rattle.creation.proofs.making.create.Goals as goal
 
 pub make_database-requires-clause-empty : goal.make_database-requires-clause-empty
@@ -8,4 +8,4 @@ make_database-requires-clause-empty g c told =
     empty_all (g.H.Host.disk c.args.host.now) (λ image left. g.met.H.Host.sizes c.args.host.now image told left) (c.if-any_there.ensures.absent refl told)
 
 pub returns-in-Ok-clause-whole : goal.returns-in-Ok-clause-whole
-returns-in-Ok-clause-whole g c told image left = stands_whole image _ (c.in-Ok.ensures.made told image left)
+returns-in-Ok-clause-whole g c told image left = fresh_stands image _ (c.in-Ok.ensures.made told image left)

@@ -3,14 +3,14 @@ use Rattle.mdb_bytes.specs.declared.converter_pages.ConverterLeaf.{ConverterLeaf
 use Rattle.mdb_bytes.specs.declared.converter_pages.ConverterRoot.{ConverterRoot}
 use Rattle.mdb_bytes.specs.declared.logical_pages.Catalogue.{Catalogue}
 use Rattle.mdb_bytes.specs.Fields.{Spells, spelled}
-use Rattle.mdb_bytes.specs.Parts.{Keeps}
+use Rattle.mdb_bytes.specs.Parts.{KeepsLimits}
 use Rattle.mdb_bytes.specs.ConverterPages.{converter_leaf_fields, converter_root_fields, converter_leaf_format, converter_root_format}
 use Rattle.mdb_bytes.specs.LogicalPages.{catalogue_fields, open_list_fields, catalogue_format, open_list_format}
-use Rattle.creation.proofs.FirstBlocks.{block_two, block_three, block_leaf, block_root, root_keeps}
+use Rattle.standing.proofs.FirstBlocks.{block_two, block_three, block_leaf, block_root, root_keeps}
 use Rattle.creation.proofs.pages.first_page.Goals as goal
 
 pub encode_converter_root-requires-clause-keeps : goal.encode_converter_root-requires-clause-keeps
-encode_converter_root-requires-clause-keeps c = subst (λ (v : ConverterRoot). Keeps converter_root_format v) (sym c.root.ensures) (root_keeps c.args.blocks c.requires.area.1)
+encode_converter_root-requires-clause-keeps c = subst (λ (v : ConverterRoot). KeepsLimits converter_root_format v) (sym c.root.ensures) (root_keeps c.args.blocks c.requires.area.1)
 
 pub returns-then-block-eq2 : goal.returns-then-block-eq2
 returns-then-block-eq2 c =

@@ -1,6 +1,6 @@
 use Rattle.std.proofs.Common.{sym, ap, subst}
 use Rattle.mdb_bytes.specs.declared.restart_record.RestartRecord.{RestartRecord}
-use Rattle.mdb_bytes.specs.Parts.{Keeps}
+use Rattle.mdb_bytes.specs.Parts.{KeepsLimits}
 use Rattle.mdb_bytes.specs.SlotRecords.{restart_format}
 use Rattle.gate_slots.specs.declared.body.SlotBody.TheVariants.{Restart}
 use Rattle.creation.proofs.FirstRecords.{restart_keeps}
@@ -9,7 +9,7 @@ use Rattle.creation.proofs.slots.open_restart_record.Goals as goal
 
 pub first-requires-clause-keeps : goal.first-requires-clause-keeps
 first-requires-clause-keeps g c =
-    subst (λ (r : RestartRecord). Keeps restart_format r) (sym c.restart.ensures) (restart_keeps c.args.birth c.args.volumes.now.items c.requires.birth.0 c.requires.birth.1 c.requires.volumes)
+    subst (λ (r : RestartRecord). KeepsLimits restart_format r) (sym c.restart.ensures) (restart_keeps c.args.birth c.args.volumes.now.items c.requires.birth.0 c.requires.birth.1 c.requires.volumes)
 
 pub returns-clause-stands : goal.returns-clause-stands
 returns-clause-stands g c told log_pages limits was image left =

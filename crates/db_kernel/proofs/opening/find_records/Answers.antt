@@ -6,15 +6,15 @@ use Rattle.redo_ring.proofs.Places.{agree_on}
 use Rattle.db_kernel.specs.Damages.{RefusesInFront}
 use Rattle.creation.specs.Devices.{device_count, SyncedUpTo}
 use Rattle.db_kernel.specs.declared.opening.Found.{Found}
-use Rattle.db_kernel.specs.Reading.{IsFound}
+use Rattle.db_kernel.specs.Reading.{FindsRecords}
 use Rattle.creation.proofs.Syncing.{all_stay}
 use Rattle.db_kernel.proofs.Results.{ok_map, ok_all}
 use Rattle.db_kernel.proofs.opening.find_records.Goals as goal
 
 pub returns-clause-found : goal.returns-clause-found
 returns-clause-found g c =
-    ok_map c.read_records.result (λ (found : Found). g.H.Host.tells → IsFound found (g.H.Host.disk c.sync_devices.new.host).seen) (λ (found : Found). g.H.Host.tells → IsFound found (g.H.Host.disk c.args.host.now).seen)
-    (λ found is told. subst (λ (i : Image). IsFound found i) (sym (same_image (g.H.Host.disk c.args.host.now).seen (g.H.Host.disk c.sync_devices.new.host).seen (c.sync_devices.ensures.seen told))) (is told))
+    ok_map c.read_records.result (λ (found : Found). g.H.Host.tells → FindsRecords found (g.H.Host.disk c.sync_devices.new.host).seen) (λ (found : Found). g.H.Host.tells → FindsRecords found (g.H.Host.disk c.args.host.now).seen)
+    (λ found is told. subst (λ (i : Image). FindsRecords found i) (sym (same_image (g.H.Host.disk c.args.host.now).seen (g.H.Host.disk c.sync_devices.new.host).seen (c.sync_devices.ensures.seen told))) (is told))
     c.read_records.ensures.found
 
 pub returns-clause-synced : goal.returns-clause-synced

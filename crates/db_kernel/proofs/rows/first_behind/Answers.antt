@@ -1,7 +1,7 @@
 use Rattle.mdb_model.specs.Tables.{place_cmp}
 use Rattle.sorted_places.proofs.Places.{place_total}
 use Rattle.db_kernel.specs.Rows.{row_place}
-use Rattle.db_kernel.proofs.Behind.{behind-at, behind-gap}
+use Rattle.session_rows.proofs.Behind.{behind-at, behind-gap}
 use Rattle.db_kernel.proofs.rows.first_behind.Goals as goal
 
 pub returns-in-Ok : goal.returns-in-Ok

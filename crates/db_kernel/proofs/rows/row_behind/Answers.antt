@@ -1,6 +1,7 @@
 use Rattle.std.proofs.Common.{sym, ap, ◌∙◌, Some}
 use Rattle.db_kernel.specs.Rows.{row_place, row_parts}
-use Rattle.db_kernel.proofs.Behind.{same_item, next-here, next-other, next-past}
+use Rattle.session_rows.proofs.Behind.{same_item}
+use Rattle.db_kernel.proofs.NextRows.{next-here, next-other, next-past}
 use Rattle.db_kernel.proofs.rows.row_behind.Goals as goal
 use Rattle.db_kernel.proofs.rows.row_behind.Goals.{else-at-rows-via-then-at-rows+else-rows-at, else-at-rows-via-else-at-rows}
 

@@ -1,12 +1,12 @@
 use Rattle.std.proofs.Common.{◌≡◌, None, is_some, refl, sym, ap, ◌∙◌, arith}
 use Rattle.std.specs.FinMap.{get, find}
-use Rattle.leaf_runs.specs.Leaves.{by_bytes}
-use Rattle.leaf_runs.specs.Runs.{rows_of, run_rows}
+use Rattle.row_page.specs.Entries.{by_bytes}
+use Rattle.leaf_runs.specs.Runs.{rows_in_pages, run_rows}
 use Rattle.leaf_runs.proofs.Causes.{cause_through}
 use Rattle.leaf_runs.proofs.Gets.{table_limits, has_leaves, no_leaves, row_there, run_on}
 use Rattle.leaf_runs.proofs.RowCosts.{cost_none, cost_some}
 use Rattle.leaf_runs.proofs.NewRuns.{whole_run, whole_on, new_on}
-use Rattle.leaf_runs.proofs.Changes.{entry_ready, new_runs, new_others, removed_map, removed_absent, runs_same}
+use Rattle.leaf_runs.proofs.Changes.{entry_ready, new_runs, new_others, others_same, removed_map, removed_absent, runs_same}
 use Rattle.leaf_runs.proofs.changing.del.Goals as goal
 
 -- No leaves
@@ -25,9 +25,13 @@ returns-then-entry-eq0-clause-gone g c = λ known r.
     let t = table_limits c.args.table.0 c.requires.table in
     let one = c.in_ok-entry.ensures.same known in
     let whole = whole_run m r c.args.table.0 c.in_ok-entry.entry t.0 t.1 (c.in_ok-entry.ensures.entry known) in
-    let none : get (rows_of m) (c.args.table.0, c.args.key.now) ≡ None =
+    let none : get (rows_in_pages m) (c.args.table.0, c.args.key.now) ≡ None =
     row_there m r c.args.table.0 c.args.key.now t.0 t.1 ∙ ap (find by_bytes c.args.key.now) (no_leaves m c.args.table.0 c.in_ok-entry.entry (r.runs c.args.table.0) whole.run c.if-entry-eq0.true) in
-    (one.0, runs_same m m1 one.1 r, removed_absent m m1 c.args.table.0 c.args.key.now one.1 none)
+    record {
+      runs = runs_same m m1 one.1 r;
+      rows = removed_absent m m1 c.args.table.0 c.args.key.now one.1 none;
+      others = others_same m m1 c.args.table.0 one.1;
+    }
 
 -- No row
 
@@ -53,9 +57,13 @@ returns-then-found-eq0-clause-gone g c = λ known r.
     let some = has_leaves m c.args.table.0 c.in_ok-entry.entry (r.runs c.args.table.0) whole.run c.if-entry-eq0.false in
     let found = c.in_ok-found.ensures.found one.0 (r.runs c.args.table.0) (run_on m m1 c.args.table.0 c.in_ok-entry.entry (r.runs c.args.table.0) one.1 whole.run) some in
     let two = c.in_ok-found.ensures.same one.0 in
-    let none : get (rows_of m) (c.args.table.0, c.args.key.now) ≡ None =
+    let none : get (rows_in_pages m) (c.args.table.0, c.args.key.now) ≡ None =
     row_there m r c.args.table.0 c.args.key.now t.0 t.1 ∙ cost_none c.args.key.now (find by_bytes c.args.key.now (run_rows (r.runs c.args.table.0))) (sym found.cost_is ∙ c.if-found-eq0.true) in
-    (two.0, runs_same m m2 (two.1 ∙ one.1) r, removed_absent m m2 c.args.table.0 c.args.key.now (two.1 ∙ one.1) none)
+    record {
+      runs = runs_same m m2 (two.1 ∙ one.1) r;
+      rows = removed_absent m m2 c.args.table.0 c.args.key.now (two.1 ∙ one.1) none;
+      others = others_same m m2 c.args.table.0 (two.1 ∙ one.1);
+    }
 
 -- A row
 
@@ -135,31 +143,12 @@ returns-clause-gone g c = λ known r.
     let new =
     new_on m m2 m3 c.args.table.0 _ c.in_ok-changed.changed (two.1 ∙ one.1)
     (c.in_ok-changed.ensures.made two.0 (r.runs c.args.table.0) (whole_on m m2 c.args.table.0 c.in_ok-entry.entry (r.runs c.args.table.0) (two.1 ∙ one.1) whole) found) in
-    let three = c.in_ok-changed.ensures.known two.0 in
-    let set = c.in_ok-write_entry.ensures.set three in (
-      c.in_ok-write_entry.ensures.known three,
-      new_runs m m3 r c.args.table.0 t.0 t.1 _ c.in_ok-changed.changed new m4 set,
-      removed_map m m3 r c.args.table.0 t.0 t.1 _ c.in_ok-changed.changed new m4 set c.args.key.now refl,
-    )
-
-pub returns-clause-others : goal.returns-clause-others
-returns-clause-others g c = λ known r.
-    let m = g.P.Pages.pages c.args.pages.now in
-    let m1 = g.P.Pages.pages c.read_entry.new.pages in
-    let m2 = g.P.Pages.pages c.find_row.new.pages in
-    let m3 = g.P.Pages.pages c.take_from_table.new.pages in
-    let m4 = g.P.Pages.pages c.write_entry.new.pages in
-    let t = table_limits c.args.table.0 c.requires.table in
-    let one = c.in_ok-entry.ensures.same known in
-    let whole = whole_run m r c.args.table.0 c.in_ok-entry.entry t.0 t.1 (c.in_ok-entry.ensures.entry known) in
-    let some = has_leaves m c.args.table.0 c.in_ok-entry.entry (r.runs c.args.table.0) whole.run c.if-entry-eq0.false in
-    let found = c.in_ok-found.ensures.found one.0 (r.runs c.args.table.0) (run_on m m1 c.args.table.0 c.in_ok-entry.entry (r.runs c.args.table.0) one.1 whole.run) some in
-    let two = c.in_ok-found.ensures.same one.0 in
-    let new =
-    new_on m m2 m3 c.args.table.0 _ c.in_ok-changed.changed (two.1 ∙ one.1)
-    (c.in_ok-changed.ensures.made two.0 (r.runs c.args.table.0) (whole_on m m2 c.args.table.0 c.in_ok-entry.entry (r.runs c.args.table.0) (two.1 ∙ one.1) whole) found) in
     let set = c.in_ok-write_entry.ensures.set (c.in_ok-changed.ensures.known two.0) in
-    new_others m m3 r c.args.table.0 t.0 t.1 _ c.in_ok-changed.changed new m4 set
+    record {
+      runs = new_runs m m3 r c.args.table.0 t.0 t.1 _ c.in_ok-changed.changed new m4 set;
+      rows = removed_map m m3 r c.args.table.0 t.0 t.1 _ c.in_ok-changed.changed new m4 set c.args.key.now refl;
+      others = new_others m m3 r c.args.table.0 t.0 t.1 _ c.in_ok-changed.changed new m4 set;
+    }
 
 pub returns-clause-follows : goal.returns-clause-follows
 returns-clause-follows g c =

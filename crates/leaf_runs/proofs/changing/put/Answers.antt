@@ -1,5 +1,5 @@
 use Rattle.std.proofs.Common.{refl, arith}
-use Rattle.leaf_runs.proofs.Causes.{cause_through, cause_last, on_ok, on_both}
+use Rattle.leaf_runs.proofs.Causes.{cause_through, cause_last, on_ok}
 use Rattle.leaf_runs.proofs.Gets.{table_limits}
 use Rattle.leaf_runs.proofs.NewRuns.{catalogue_lives, live_on, whole_run, whole_on, new_on}
 use Rattle.leaf_runs.proofs.Changes.{entry_ready, new_runs, new_others, put_map}
@@ -32,28 +32,11 @@ returns-clause-set g c = λ known r.
     let new =
     new_on m m1 m2 c.args.table.0 _ c.in_ok-changed.changed one.1
     (c.in_ok-changed.ensures.made one.0 (live_on m m1 one.1 (catalogue_lives m r)) (r.runs c.args.table.0) (whole_on m m1 c.args.table.0 c.in_ok-entry.entry (r.runs c.args.table.0) one.1 whole)) in
-    on_both _ _ _ c.write_entry.result
-    (λ set now. (
-      now,
-      new_runs m m2 r c.args.table.0 t.0 t.1 _ c.in_ok-changed.changed new m3 set,
-      put_map m m2 r c.args.table.0 t.0 t.1 _ c.in_ok-changed.changed new m3 set c.args.key.now c.args.value.now refl,
-    ))
-    (c.write_entry.ensures.set two) (c.write_entry.ensures.known two)
-
-pub returns-clause-others : goal.returns-clause-others
-returns-clause-others g c = λ known r.
-    let m = g.P.Pages.pages c.args.pages.now in
-    let m1 = g.P.Pages.pages c.read_entry.new.pages in
-    let m2 = g.P.Pages.pages c.put_in_table.new.pages in
-    let m3 = g.P.Pages.pages c.write_entry.new.pages in
-    let t = table_limits c.args.table.0 c.requires.table in
-    let one = c.in_ok-entry.ensures.same known in
-    let whole = whole_run m r c.args.table.0 c.in_ok-entry.entry t.0 t.1 (c.in_ok-entry.ensures.entry known) in
-    let two = c.in_ok-changed.ensures.known one.0 in
-    let new =
-    new_on m m1 m2 c.args.table.0 _ c.in_ok-changed.changed one.1
-    (c.in_ok-changed.ensures.made one.0 (live_on m m1 one.1 (catalogue_lives m r)) (r.runs c.args.table.0) (whole_on m m1 c.args.table.0 c.in_ok-entry.entry (r.runs c.args.table.0) one.1 whole)) in
-    on_ok _ _ c.write_entry.result (λ set. new_others m m2 r c.args.table.0 t.0 t.1 _ c.in_ok-changed.changed new m3 set) (c.write_entry.ensures.set two)
+    on_ok _ _ c.write_entry.result (λ set. record {
+      runs = new_runs m m2 r c.args.table.0 t.0 t.1 _ c.in_ok-changed.changed new m3 set;
+      rows = put_map m m2 r c.args.table.0 t.0 t.1 _ c.in_ok-changed.changed new m3 set c.args.key.now c.args.value.now refl;
+      others = new_others m m2 r c.args.table.0 t.0 t.1 _ c.in_ok-changed.changed new m3 set;
+    }) (c.write_entry.ensures.set two)
 
 pub returns-clause-cause : goal.returns-clause-cause
 returns-clause-cause g c =

@@ -1,5 +1,5 @@
 use Rattle.std.proofs.Common.{arith}
-use Rattle.leaf_runs.specs.Loose.{IsRound, IsPlaced}
+use Rattle.leaf_runs.specs.Loose.{IsRound, PutsRowInLeaf}
 use Rattle.leaf_runs.proofs.Causes.{cause_through}
 use Rattle.leaf_runs.proofs.RowCosts.{put_some}
 use Rattle.leaf_runs.proofs.NewRuns.{live_on, whole_on, here_run, has_spot, put_changed, put_ends, new_from_taken, new_on}
@@ -40,7 +40,7 @@ returns-in_err-joined-clause-cause g c =
     let live1 = live_on m m1 one.1 live in
     let page_is = spot.page_is in
     let round : IsRound spot.front c.args.key.now spot.back = record { lower = spot.lower; higher = spot.higher } in
-    let placed : IsPlaced m1 m2 c.args.table.0 spot.front spot.here spot.back c.args.key.now c.args.value.now c.in_ok-other.other = search (c.in_ok-other.ensures.placed) in
+    let placed : PutsRowInLeaf m1 m2 c.args.table.0 spot.front spot.here spot.back c.args.key.now c.args.value.now c.in_ok-other.other = search (c.in_ok-other.ensures.placed) in
     h.whole (
       c.in_ok-other.ensures.known one.0,
       (
@@ -70,7 +70,7 @@ returns-clause-made g c = λ known live leaves whole_old some.
     let live1 = live_on m m1 one.1 live in
     let page_is = spot.page_is in
     let round : IsRound spot.front c.args.key.now spot.back = record { lower = spot.lower; higher = spot.higher } in
-    let placed : IsPlaced m1 m2 c.args.table.0 spot.front spot.here spot.back c.args.key.now c.args.value.now c.in_ok-other.other = search (c.in_ok-other.ensures.placed) in
+    let placed : PutsRowInLeaf m1 m2 c.args.table.0 spot.front spot.here spot.back c.args.key.now c.args.value.now c.in_ok-other.other = search (c.in_ok-other.ensures.placed) in
     let changed = put_changed m1 c.args.table.0 c.args.entry leaves whole c.args.key.now c.in_ok-found.found.spot.before c.in_ok-found.found.spot.page spot m2 c.args.value.now c.in_ok-other.other placed in
     let settled = c.in_ok-joined.ensures.settled (c.in_ok-other.ensures.known one.0) spot.front placed.parts spot.back changed in
     let taken =

@@ -1,7 +1,7 @@
 use Rattle.std.proofs.Common.{◌≡◌, Some, ap, sym, subst, ◌∙◌, arith}
 use Rattle.std.specs.FinMap.{find}
 use Rattle.mdb_bytes.specs.Paged.{PageBytes}
-use Rattle.leaf_runs.specs.Leaves.{by_bytes}
+use Rattle.row_page.specs.Entries.{by_bytes}
 use Rattle.leaf_runs.specs.Runs.{leaf_at}
 use Rattle.leaf_runs.proofs.Causes.{cause_last, if_ok}
 use Rattle.leaf_runs.proofs.Gets.{row_there, table_limits, table_run, has_leaves, no_leaves, row_as, run_on, leaf_on_same, spot_leaf, spot_row}

@@ -1,6 +1,6 @@
 use Rattle.std.proofs.Common.{[], false, ap, ◌∙◌, arith}
 use Rattle.std.specs.FinMap.{find}
-use Rattle.leaf_runs.specs.Leaves.{by_bytes}
+use Rattle.row_page.specs.Entries.{by_bytes}
 use Rattle.leaf_runs.proofs.Causes.{cause_last, if_ok}
 use Rattle.leaf_runs.proofs.Gets.{table_limits, table_run, has_leaves, no_leaves, run_on, scanned_on, two_leaves, scan_first, first_of_all}
 use Rattle.leaf_runs.proofs.reading.scan_next.Goals as goal

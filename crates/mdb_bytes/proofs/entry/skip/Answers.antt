@@ -3,7 +3,7 @@ use Rattle.mdb_bytes.specs.LoggedChanges.{change_of}
 use Rattle.mdb_bytes.proofs.entry.skip.Goals as goal
 
 pub returns-in_default : goal.returns-in_default
-returns-in_default c = λ cs h. changes_past c.loop.rest.now c.loop.counter c.args.n cs c.loop-test.true c.in_default.ensures.first (c.loop.invariant.2 cs h)
+returns-in_default c = λ cs h. changes_past c.loop.rest.now c.loop.counter c.args.count cs c.loop-test.true c.in_default.ensures.first (c.loop.invariant.2 cs h)
 
 pub loop-preserved : goal.loop-preserved
 loop-preserved c =

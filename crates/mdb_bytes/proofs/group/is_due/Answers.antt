@@ -1,5 +1,5 @@
 use Rattle.std.proofs.Common.{◌↔◌, drop, None, IsTrue, subst}
-use Rattle.mdb_bytes.specs.ChangeOrder.{IsRun}
+use Rattle.mdb_bytes.specs.ChangeOrder.{IsChangeRun}
 use Rattle.mdb_bytes.proofs.Booleans.{refused, passed}
 use Rattle.mdb_bytes.proofs.GroupFront.{head_long}
 use Rattle.mdb_bytes.proofs.GroupChecked.{not_due, other_due, due_by_run}
@@ -18,4 +18,4 @@ split_at-requires c = head_long c.in-Some.head c.args.bytes.now (drop 33 c.args.
 pub returns : goal.returns
 returns c =
     due_by_run c.args.name c.args.number c.args.bytes.now c.in-Some.head c.are_changes.result c.in-Some.ensures.head (passed c.is_head_for.ensures c.if-not-is_head_for.false)
-    (subst (λ t. IsTrue c.are_changes.result ↔ IsRun None c.in-Some.head.changes t) c.split_at.ensures.back c.are_changes.ensures)
+    (subst (λ t. IsTrue c.are_changes.result ↔ IsChangeRun None c.in-Some.head.changes t) c.split_at.ensures.back c.are_changes.ensures)

@@ -1,6 +1,6 @@
 use Rattle.std.proofs.Common.{◌≡◌, ◌+◌, ◌-◌, ◌↔◌, None, Some, length, sym, subst, ◌∙◌, arith}
 use Rattle.mdb_bytes.specs.TablePages.{Child}
-use Rattle.mdb_bytes.specs.EntryPages.{child_layout, key_in, IsRun}
+use Rattle.mdb_bytes.specs.EntryPages.{child_layout, key_in, IsEntryRun}
 use Rattle.mdb_bytes.proofs.EntryRuns.{begins_longer, run_on, run_breaks, run_slot, run_lacks, run_ends}
 use Rattle.mdb_bytes.proofs.ChildEntries.{child_law}
 use Rattle.mdb_bytes.proofs.SlotFacts.{both_empty, some_left}
@@ -30,8 +30,8 @@ loop-preserved c =
     let place : 64 + (length c.args.children.now - length c.loop.rest.now) + child_layout.len child ≡ 64 + (length c.args.children.now - length c.in-Some.behind.now) =
     omega arith in record {
       within = omega arith;
-      left = subst (λ at. IsRun child_layout None c.args.count 64 c.args.children.now c.args.slots.now
-          ↔ IsRun child_layout (Some c.in-Some.key.now) (c.args.count - (c.loop.counter + 1)) at c.in-Some.behind.now c.in-Some-slots_in_front.others.now) place
+      left = subst (λ at. IsEntryRun child_layout None c.args.count 64 c.args.children.now c.args.slots.now
+          ↔ IsEntryRun child_layout (Some c.in-Some.key.now) (c.args.count - (c.loop.counter + 1)) at c.in-Some.behind.now c.in-Some-slots_in_front.others.now) place
           (run_on child_layout 2 child_law (key_in c.loop.last) c.args.count c.loop.counter (64 + (length c.args.children.now - length c.loop.rest.now))
           c.loop.rest.now c.loop.left.now c.loop-test.true c.loop.invariant.left child c.in-Some.behind.now c.in-Some-slots_in_front.others.now c.in-Some.ensures.1
           c.in-Some-slots_in_front.ensures (sym c.may_stand.ensures ∙ c.if-not-may_stand.false));

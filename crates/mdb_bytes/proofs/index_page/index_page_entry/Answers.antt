@@ -4,18 +4,18 @@ use Rattle.mdb_bytes.proofs.EntryParts.{no_child, child_found, child_long}
 use Rattle.mdb_bytes.proofs.index_page.index_page_entry.Goals as goal
 
 pub returns-in_default-clause-entry : goal.returns-in_default-clause-entry
-returns-in_default-clause-entry c = λ v s. no_child c.args.bytes.now (as_bytes c.args.bytes.now c.type_inv.bytes) c.args.i v s c.in_default.ensures
+returns-in_default-clause-entry c = λ v s. no_child c.args.bytes.now (as_bytes c.args.bytes.now c.type_inv.bytes) c.args.index v s c.in_default.ensures
 
 pub returns-then-front-lt6-clause-entry : goal.returns-then-front-lt6-clause-entry
 returns-then-front-lt6-clause-entry c =
-    λ v s. (let long = child_long c.args.bytes.now (as_bytes c.args.bytes.now c.type_inv.bytes) c.args.i v s (c.in-Some.place, c.in-Some.front) c.in-Some.ensures in absurd (omega arith))
+    λ v s. (let long = child_long c.args.bytes.now (as_bytes c.args.bytes.now c.type_inv.bytes) c.args.index v s (c.in-Some.place, c.in-Some.front) c.in-Some.ensures in absurd (omega arith))
 
 pub returns-then-front-key_len-clause-entry : goal.returns-then-front-key_len-clause-entry
 returns-then-front-key_len-clause-entry c =
-    λ v s. (let found = child_found c.args.bytes.now (as_bytes c.args.bytes.now c.type_inv.bytes) c.args.i v s (c.in-Some.place, c.in-Some.front) c.in-Some.ensures
+    λ v s. (let found = child_found c.args.bytes.now (as_bytes c.args.bytes.now c.type_inv.bytes) c.args.index v s (c.in-Some.place, c.in-Some.front) c.in-Some.ensures
     c.head_at_front-head.result c.head_at_front-head.ensures in let long = found.0 in absurd (omega arith))
 
 pub returns-clause-entry : goal.returns-clause-entry
 returns-clause-entry c =
-    λ v s. (child_found c.args.bytes.now (as_bytes c.args.bytes.now c.type_inv.bytes) c.args.i v s (c.in-Some.place, c.in-Some.front) c.in-Some.ensures
+    λ v s. (child_found c.args.bytes.now (as_bytes c.args.bytes.now c.type_inv.bytes) c.args.index v s (c.in-Some.place, c.in-Some.front) c.in-Some.ensures
     c.head_at_front-head.result c.head_at_front-head.ensures).1

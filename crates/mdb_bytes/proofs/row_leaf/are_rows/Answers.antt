@@ -1,6 +1,6 @@
 use Rattle.std.proofs.Common.{◌≡◌, ◌+◌, ◌-◌, ◌↔◌, None, Some, length, sym, subst, ◌∙◌, arith}
 use Rattle.mdb_bytes.specs.TablePages.{Row, longest_value}
-use Rattle.mdb_bytes.specs.EntryPages.{row_layout, key_in, IsRun}
+use Rattle.mdb_bytes.specs.EntryPages.{row_layout, key_in, IsEntryRun}
 use Rattle.mdb_bytes.proofs.EntryRuns.{begins_longer, run_on, run_breaks, run_slot, run_lacks, run_ends}
 use Rattle.mdb_bytes.proofs.RowEntries.{row_law}
 use Rattle.mdb_bytes.proofs.SlotFacts.{both_empty, some_left}
@@ -30,8 +30,8 @@ loop-preserved c =
     let place : 64 + (length c.args.rows.now - length c.loop.rest.now) + (row_layout longest_value).len row ≡ 64 + (length c.args.rows.now - length c.in-Some.behind.now) =
     omega arith in record {
       within = omega arith;
-      left = subst (λ at. IsRun (row_layout longest_value) None c.args.count 64 c.args.rows.now c.args.slots.now
-          ↔ IsRun (row_layout longest_value) (Some c.in-Some.key.now) (c.args.count - (c.loop.counter + 1)) at c.in-Some.behind.now c.in-Some-slots_in_front.others.now) place
+      left = subst (λ at. IsEntryRun (row_layout longest_value) None c.args.count 64 c.args.rows.now c.args.slots.now
+          ↔ IsEntryRun (row_layout longest_value) (Some c.in-Some.key.now) (c.args.count - (c.loop.counter + 1)) at c.in-Some.behind.now c.in-Some-slots_in_front.others.now) place
           (run_on (row_layout longest_value) 2 (row_law longest_value) (key_in c.loop.last) c.args.count c.loop.counter (64 + (length c.args.rows.now - length c.loop.rest.now))
           c.loop.rest.now c.loop.left.now c.loop-test.true c.loop.invariant.left row c.in-Some.behind.now c.in-Some-slots_in_front.others.now c.in-Some.ensures.1
           c.in-Some-slots_in_front.ensures (sym c.may_stand.ensures ∙ c.if-not-may_stand.false));

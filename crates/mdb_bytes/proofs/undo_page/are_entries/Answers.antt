@@ -2,7 +2,7 @@ use Rattle.std.proofs.Common.{◌≡◌, ◌+◌, ◌-◌, ◌↔◌, ℕ, None,
 use Rattle.mdb_bytes.specs.Fields.{spelled}
 use Rattle.mdb_bytes.specs.TablePages.{longest_value}
 use Rattle.mdb_bytes.specs.UndoPages.{UndoEntry}
-use Rattle.mdb_bytes.specs.EntryPages.{undo_layout, IsRun}
+use Rattle.mdb_bytes.specs.EntryPages.{undo_layout, IsEntryRun}
 use Rattle.mdb_bytes.proofs.Booleans.{empty_test}
 use Rattle.mdb_bytes.proofs.EntryRuns.{begins_longer, run_on, run_lacks, run_ends}
 use Rattle.mdb_bytes.proofs.UndoEntries.{undo_law}
@@ -22,8 +22,8 @@ loop-preserved c =
     let place : 64 + (length c.args.entries.now - length c.loop.rest.now) + (undo_layout longest_value).len v ≡ 64 + (length c.args.entries.now - length c.in-Some.behind.now) =
     omega arith in record {
       within = omega arith;
-      left = subst (λ (at : ℕ). IsRun (undo_layout longest_value) None c.args.count 64 c.args.entries.now []
-          ↔ IsRun (undo_layout longest_value) None (c.args.count - (c.loop.counter + 1)) at c.in-Some.behind.now []) place
+      left = subst (λ (at : ℕ). IsEntryRun (undo_layout longest_value) None c.args.count 64 c.args.entries.now []
+          ↔ IsEntryRun (undo_layout longest_value) None (c.args.count - (c.loop.counter + 1)) at c.in-Some.behind.now []) place
           (run_on (undo_layout longest_value) 0 (undo_law longest_value) None c.args.count c.loop.counter (64 + (length c.args.entries.now - length c.loop.rest.now))
           c.loop.rest.now [] c.loop-test.true c.loop.invariant.left v c.in-Some.behind.now [] c.in-Some.ensures.1 refl refl);
     }

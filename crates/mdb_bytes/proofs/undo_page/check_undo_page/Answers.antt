@@ -3,7 +3,7 @@ use Rattle.std.specs.Prelude.{IsTrue}
 use Rattle.std.proofs.lemmas.List.{nil_from_length}
 use Rattle.mdb_bytes.specs.TablePages.{longest_value}
 use Rattle.mdb_bytes.specs.UndoPages.{undo_page_format}
-use Rattle.mdb_bytes.specs.EntryPages.{undo_layout, IsRun, undo_head}
+use Rattle.mdb_bytes.specs.EntryPages.{undo_layout, IsEntryRun, undo_head}
 use Rattle.mdb_bytes.proofs.NumberBytes.{as_bytes}
 use Rattle.mdb_bytes.proofs.Booleans.{refused, passed}
 use Rattle.mdb_bytes.proofs.UndoEntries.{undo_law}
@@ -30,4 +30,4 @@ returns c =
     (as_bytes c.args.bytes.now c.type_inv.bytes) (undo_page_of longest_value c.args.bytes.now) c.in-Some.page.head c.in-Some.page.entries.now c.in-Some.page.slots.now
     c.in-Some.ensures c.are_entries.result
     (page_undo longest_value c.args.bytes.now c.in-Some.page.head (passed c.is_undo_head.ensures c.if-not-is_undo_head.false))
-    (subst (λ slots. IsTrue c.are_entries.result ↔ IsRun (undo_layout longest_value) None c.in-Some.page.head.count 64 c.in-Some.page.entries.now slots) (sym none) c.are_entries.ensures)
+    (subst (λ slots. IsTrue c.are_entries.result ↔ IsEntryRun (undo_layout longest_value) None c.in-Some.page.head.count 64 c.in-Some.page.entries.now slots) (sym none) c.are_entries.ensures)

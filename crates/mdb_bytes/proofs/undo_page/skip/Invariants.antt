@@ -7,4 +7,4 @@ use Rattle.mdb_bytes.proofs.undo_page.skip.Given as goal
 abbrev pub invariant-loop : goal.invariant-loop
 invariant-loop l =
     (length l.rest ≤ length l.bytes) × (drop (length l.bytes - length l.rest) l.bytes ≡ l.rest)
-    × ((entries : List UndoEntry) (more : List Field) → l.n ≤ length entries → HasUndo l.bytes entries more → HasUndo l.rest (drop l.counter entries) more)
+    × ((entries : List UndoEntry) (more : List Field) → l.count ≤ length entries → HasUndo l.bytes entries more → HasUndo l.rest (drop l.counter entries) more)

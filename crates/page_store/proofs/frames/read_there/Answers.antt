@@ -17,4 +17,4 @@ pub returns-clause-bytes : goal.returns-clause-bytes
 returns-clause-bytes g c told area =
     let at = c.in_ok-device.ensures.place in
     let long : length c.read.new.into ≡ 8192 = omega arith in
-    block_read c.args.volumes.now (g.H.Host.disk c.args.host.now).seen c.args.b c.in_ok-device.at c.in_ok-device.device c.read.new.into c.requires area long at.0 at.1 (c.in-Ok.ensures.bytes told)
+    block_read c.args.volumes.now (g.H.Host.disk c.args.host.now).seen c.args.block c.in_ok-device.at c.in_ok-device.device c.read.new.into c.requires area long at.0 at.1 (c.in-Ok.ensures.bytes told)

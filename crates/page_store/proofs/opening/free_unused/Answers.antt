@@ -35,16 +35,16 @@ passed_more m n b flags before used = record {
   ];
 }
 
-pub loop-b-preserved : goal.loop-b-preserved
-loop-b-preserved c =
+pub loop-block-preserved : goal.loop-block-preserved
+loop-block-preserved c =
     let m = c.args.converter.now in
-    let b = c.loop-b.b in
-    let was : Freed m c.args.blocks b c.loop-b.free = record { long = c.loop-b.invariant.long; unused = c.loop-b.invariant.unused; freed = c.loop-b.invariant.freed } in
+    let b = c.loop-block.block in
+    let was : Freed m c.args.blocks b c.loop-block.free = record { long = c.loop-block.invariant.long; unused = c.loop-block.invariant.unused; freed = c.loop-block.invariant.freed } in
     let more : Freed m c.args.blocks (b + 1) c.if-not-uses.free = elim c.if-not-uses.branch [
       | then-not-uses w ↦
           subst (λ (l : List Bool). Freed m c.args.blocks (b + 1) l) (sym (w.free-is ∙ w.give.ensures))
-          (given_more m c.args.blocks b c.loop-b.free (omega (arith, c.loop-b.auto.b)) (omega (arith, c.loop-b-test.true)) was (λ used. false≢true (w.if-not-uses.ensures.1 used)))
+          (given_more m c.args.blocks b c.loop-block.free (omega (arith, c.loop-block.auto.block)) (omega (arith, c.loop-block-test.true)) was (λ used. false≢true (w.if-not-uses.ensures.1 used)))
       | else-not-uses w ↦
-          subst (λ (l : List Bool). Freed m c.args.blocks (b + 1) l) (sym w.free-is) (passed_more m c.args.blocks b c.loop-b.free was (w.if-not-uses.ensures.0 refl))
+          subst (λ (l : List Bool). Freed m c.args.blocks (b + 1) l) (sym w.free-is) (passed_more m c.args.blocks b c.loop-block.free was (w.if-not-uses.ensures.0 refl))
     ] in
     record { long = more.long; unused = more.unused; freed = more.freed }

@@ -1,6 +1,6 @@
 use Rattle.std.proofs.Common.{arith}
 use Rattle.std.proofs.lemmas.List.{ext_get_or}
-use Rattle.converter.specs.Maps.{no_entry}
+use Rattle.mdb_bytes.specs.Firsts.{no_entry}
 use Rattle.page_store.proofs.pins.keep_map.Goals as goal
 
 pub returns-clause-map : goal.returns-clause-map

@@ -1,11 +1,11 @@
 use Rattle.std.proofs.Common.{ap, ℕ, length, length-drop, arith}
 use Rattle.mdb_model.specs.Images.{Image}
-use Rattle.redo_ring.proofs.Places.{goes_more, rest_torn, torn_trans, written_more, rest_is}
+use Rattle.redo_ring.proofs.Places.{ring_more, written_more, rest_is}
 use Rattle.redo_ring.proofs.pieces.write_ring.Goals as goal
 
-pub returns-in_err-done-clause-goes : goal.returns-in_err-done-clause-goes
-returns-in_err-done-clause-goes g c told =
-    goes_more c.args.size c.args.position c.loop-done.done 0 c.args.bytes.now _ (rest_is c.loop-done.done c.args.bytes.now) c.loop-done.invariant.within c.requires.fits _ _ _ (c.loop-done.invariant.goes told) (c.write_piece.ensures.goes told)
+pub returns-in_err-done-clause-writes : goal.returns-in_err-done-clause-writes
+returns-in_err-done-clause-writes g c =
+    ring_more c.args.size c.args.position c.loop-done.done 0 c.args.bytes.now _ (rest_is c.loop-done.done c.args.bytes.now) c.loop-done.invariant.within c.requires.fits g.H.Host _ _ _ c.loop-done.invariant.writes c.write_piece.ensures.writes
 
 pub loop-done-preserved : goal.loop-done-preserved
 loop-done-preserved g c =
@@ -17,10 +17,7 @@ loop-done-preserved g c =
     let after : Image = (g.H.Host.disk c.write_piece.new.host).seen in
     record {
       within = omega (arith, c.in_ok-done.ensures.count.1, ap length (rest_is done bytes), length-drop {A = ℕ});
-      goes = λ told. goes_more size c.args.position done 0 bytes _ (rest_is done bytes) so_far.within c.requires.fits _ _ _ (so_far.goes told) (c.write_piece.ensures.goes told);
-      seen = λ told. torn_trans size c.args.position (length bytes) (g.H.Host.disk c.args.host.now).seen before after (so_far.seen told)
-          (rest_torn size c.args.position done 0 bytes _ (rest_is done bytes) so_far.within c.requires.fits before after (c.write_piece.ensures.seen told));
-      written = λ told. written_more size c.args.position done c.in_ok-done.field-0 bytes _ (rest_is done bytes) so_far.within c.requires.fits before after (so_far.written told) (c.write_piece.ensures.seen told) (c.in_ok-done.ensures.written told);
+      writes = ring_more c.args.size c.args.position c.loop-done.done 0 c.args.bytes.now _ (rest_is c.loop-done.done c.args.bytes.now) c.loop-done.invariant.within c.requires.fits g.H.Host _ _ _ c.loop-done.invariant.writes c.write_piece.ensures.writes;
+      written = λ told. written_more size c.args.position done c.in_ok-done.field-0 bytes _ (rest_is done bytes) so_far.within c.requires.fits before after (so_far.written told) (c.write_piece.ensures.writes.seen told) (c.in_ok-done.ensures.written told);
       faults = omega (arith, c.write_piece.ensures.cause.later);
-      say_faults = omega (arith, c.loop-done.invariant.say_faults, c.write_piece.ensures.say_faults);
     }

@@ -1,17 +1,14 @@
 use Rattle.std.proofs.Common.{length, ◌-◌, ◌≡◌, ℕ, ◌+◌, ◌≤◌, ◌<◌, get_or}
-use Rattle.mdb_host.specs.Disk.{Goes}
 use Rattle.mdb_bytes.specs.Rings.{ring_byte}
-use Rattle.redo_ring.specs.Ring.{RingTorn}
+use Rattle.redo_ring.specs.Writes.{WritesRing}
 use Rattle.redo_ring.proofs.pieces.write_ring.Given as goal
 
 abbrev pub invariant-loop-done : goal.invariant-loop-done
 invariant-loop-done g l = record {
   within : l.done ≤ length l.bytes;
-  goes : g.H.Host.tells → Goes (g.H.Host.disk l.fn.host) (g.H.Host.disk l.host) (RingTorn l.size l.position (length l.bytes));
-  seen : g.H.Host.tells → RingTorn l.size l.position (length l.bytes) (g.H.Host.disk l.fn.host).seen (g.H.Host.disk l.host).seen;
+  writes : WritesRing g.H.Host l.size l.position (length l.bytes) l.fn.host l.host;
   written : g.H.Host.tells → (i : ℕ) → i < l.done → ring_byte l.size (g.H.Host.disk l.host).seen (l.position + i) ≡ get_or l.bytes i 0;
   faults : g.H.Host.faults l.fn.host ≤ g.H.Host.faults l.host;
-  say_faults : g.H.Host.say_faults l.host ≡ g.H.Host.say_faults l.fn.host;
 }
 
 -- proposed from the loop's first test

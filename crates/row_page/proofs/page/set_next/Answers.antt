@@ -1,5 +1,5 @@
 use Rattle.std.proofs.Common.{◌∙◌}
-use Rattle.row_page.specs.Entries.{entries_of, head_of}
+use Rattle.row_page.specs.Entries.{entries_of, page_head_of}
 use Rattle.row_page.proofs.Edits.{renamed, page_parts}
 use Rattle.row_page.proofs.ReadBack.{is_page, head_is, entries_are}
 use Rattle.row_page.proofs.page.set_next.Goals as goal
@@ -7,7 +7,7 @@ use Rattle.row_page.proofs.page.set_next.Goals as goal
 pub returns : goal.returns
 returns c =
     let p = c.args.page.now in
-    let h = head_of p in
+    let h = page_head_of p in
     let es = entries_of p in
     let parts = page_parts p h es c.requires.page in
     let s = renamed c.split_at_mut-head.result.0.now c.write_four.new.part c.split_at_mut-head.result.1.now h es c.args.next c.requires.page.head c.requires.leaf c.ranges.next.fits c.requires.page.entries

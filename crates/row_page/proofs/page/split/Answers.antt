@@ -1,7 +1,7 @@
 use Rattle.std.proofs.Common.{◌≡◌, ◌+◌, ◌-◌, ◌*◌, ℕ, Bool, length, take, drop, ap, sym, subst, ◌∙◌, arith}
 use Rattle.std.proofs.lemmas.List.{length-take, length-drop, take-map, drop-map}
-use Rattle.row_page.specs.Page.{used, body_of}
-use Rattle.row_page.specs.Entries.{AreEntries, cells, cells_of, cell_of, entries_of, head_of, is_leaf}
+use Rattle.row_page.specs.Page.{used, page_body}
+use Rattle.row_page.specs.Entries.{AreEntries, cells, cells_of, cell_of, entries_of, page_head_of, is_leaf}
 use Rattle.row_page.proofs.Moves.{cut_fits}
 use Rattle.row_page.proofs.Halves.{has_cut, no_cells, entries-take, entries-drop, used-take, used-drop}
 use Rattle.row_page.proofs.Edits.{shown, page_parts}
@@ -12,7 +12,7 @@ pub split_cells-requires-clause-cut : goal.split_cells-requires-clause-cut
 split_cells-requires-clause-cut c =
     let p = c.args.from.now in (
       cells_of p,
-      has_cut p c.split_at_mut-from_head.result.1.now (head_of p) (entries_of p) c.count_of-count.result c.args.at c.place_of-place.result _
+      has_cut p c.split_at_mut-from_head.result.1.now (page_head_of p) (entries_of p) c.count_of-count.result c.args.at c.place_of-place.result _
           c.requires.from c.split_at_mut-from_head.ensures.back (omega (arith, c.split_at_mut-from_head.ensures.back_len)) c.count_of-count.ensures c.requires.within c.place_of-place.ensures
           (omega (arith, c.cells_used.ensures)),
     )
@@ -22,26 +22,26 @@ split_cells-requires-clause-other c =
     let q = c.args.to.now in
     let l : length c.split_at_mut-to_head.result.1.now ≡ 8128 = omega (arith, c.split_at_mut-to_head.ensures.back_len) in
     let m : length c.split_at_mut-from_head.result.1.now ≡ 8128 = omega (arith, c.split_at_mut-from_head.ensures.back_len) in
-    no_cells q c.split_at_mut-to_head.result.1.now (head_of q) (entries_of q) (length c.split_at_mut-from_head.result.1.now) c.requires.to c.requires.empty c.split_at_mut-to_head.ensures.back l m
+    no_cells q c.split_at_mut-to_head.result.1.now (page_head_of q) (entries_of q) (length c.split_at_mut-from_head.result.1.now) c.requires.to c.requires.empty c.split_at_mut-to_head.ensures.back l m
 
 pub overflow_add-place : goal.overflow_add-place
 overflow_add-place c =
     let p = c.args.from.now in
-    let a = entries-take (is_leaf (head_of p)) (entries_of p) c.args.at c.requires.within c.requires.from.entries in
-    let u = used-take (is_leaf (head_of p)) (entries_of p) c.args.at c.place_of-place.result c.requires.within c.place_of-place.ensures in
+    let a = entries-take (is_leaf (page_head_of p)) (entries_of p) c.args.at c.requires.within c.requires.from.entries in
+    let u = used-take (is_leaf (page_head_of p)) (entries_of p) c.args.at c.place_of-place.result c.requires.within c.place_of-place.ensures in
     omega (arith, a.fits, u)
 
 pub overflow_cast-place : goal.overflow_cast-place
 overflow_cast-place c =
     let p = c.args.from.now in
-    let a = entries-take (is_leaf (head_of p)) (entries_of p) c.args.at c.requires.within c.requires.from.entries in
-    let u = used-take (is_leaf (head_of p)) (entries_of p) c.args.at c.place_of-place.result c.requires.within c.place_of-place.ensures in
+    let a = entries-take (is_leaf (page_head_of p)) (entries_of p) c.args.at c.requires.within c.requires.from.entries in
+    let u = used-take (is_leaf (page_head_of p)) (entries_of p) c.args.at c.place_of-place.result c.requires.within c.place_of-place.ensures in
     omega (arith, a.fits, u)
 
 pub overflow_sub-size-2 : goal.overflow_sub-size-2
 overflow_sub-size-2 c =
     let p = c.args.from.now in
-    let cut = has_cut p c.split_at_mut-from_head.result.1.now (head_of p) (entries_of p) c.count_of-count.result c.args.at c.place_of-place.result _
+    let cut = has_cut p c.split_at_mut-from_head.result.1.now (page_head_of p) (entries_of p) c.count_of-count.result c.args.at c.place_of-place.result _
     c.requires.from c.split_at_mut-from_head.ensures.back (omega (arith, c.split_at_mut-from_head.ensures.back_len)) c.count_of-count.ensures c.requires.within c.place_of-place.ensures
     (ap (λ (n : ℕ). n - 2 * c.count_of-count.result) c.cells_used.ensures) in
     let f = cut_fits _ _ _ _ _ _ cut in
@@ -50,15 +50,15 @@ overflow_sub-size-2 c =
 pub returns-clause-first : goal.returns-clause-first
 returns-clause-first c =
     let p = c.args.from.now in
-    let h = head_of p in
+    let h = page_head_of p in
     let es = entries_of p in
     let body = c.split_at_mut-from_head.result.1.now in
     let len : length body ≡ 8128 = omega (arith, c.split_at_mut-from_head.ensures.back_len) in
     let cut = has_cut p body h es c.count_of-count.result c.args.at c.place_of-place.result _
     c.requires.from c.split_at_mut-from_head.ensures.back len c.count_of-count.ensures c.requires.within c.place_of-place.ensures
     (ap (λ (n : ℕ). n - 2 * c.count_of-count.result) c.cells_used.ensures) in
-    let made = (c.split_cells.ensures (cells (is_leaf h) es) cut).0 ∙ ap (λ (k : ℕ). body_of k (take c.args.at (cells (is_leaf h) es))) len
-    ∙ ap (body_of 8128) (take-map (cell_of (is_leaf h)) c.args.at es) in
+    let made = (c.split_cells.ensures (cells (is_leaf h) es) cut).0 ∙ ap (λ (k : ℕ). page_body k (take c.args.at (cells (is_leaf h) es))) len
+    ∙ ap (page_body 8128) (take-map (cell_of (is_leaf h)) c.args.at es) in
     let u = used-take (is_leaf h) es c.args.at c.place_of-place.result c.requires.within c.place_of-place.ensures in
     becomes p _ (take c.args.at es) (shown c.split_at_mut-from_head.result.0.now c.write_two.new.part c.write_two-2.new.part c.split_cells.new.body h es (take c.args.at es) c.args.at (c.place_of-place.result + 2 * c.args.at)
     c.requires.from.head (entries-take (is_leaf h) es c.args.at c.requires.within c.requires.from.entries)
@@ -69,21 +69,21 @@ pub returns-clause-second : goal.returns-clause-second
 returns-clause-second c =
     let p = c.args.from.now in
     let q = c.args.to.now in
-    let h = head_of p in
+    let h = page_head_of p in
     let es = entries_of p in
     let body = c.split_at_mut-from_head.result.1.now in
     let len : length body ≡ 8128 = omega (arith, c.split_at_mut-from_head.ensures.back_len) in
     let cut = has_cut p body h es c.count_of-count.result c.args.at c.place_of-place.result _
     c.requires.from c.split_at_mut-from_head.ensures.back len c.count_of-count.ensures c.requires.within c.place_of-place.ensures
     (ap (λ (n : ℕ). n - 2 * c.count_of-count.result) c.cells_used.ensures) in
-    let same : is_leaf h ≡ is_leaf (head_of q) = sym c.requires.kinds in
-    let made = (c.split_cells.ensures (cells (is_leaf h) es) cut).1 ∙ ap (λ (k : ℕ). body_of k (drop c.args.at (cells (is_leaf h) es))) len
-    ∙ ap (body_of 8128) (drop-map (cell_of (is_leaf h)) c.args.at es) ∙ ap (λ (b : Bool). body_of 8128 (cells b (drop c.args.at es))) same in
+    let same : is_leaf h ≡ is_leaf (page_head_of q) = sym c.requires.kinds in
+    let made = (c.split_cells.ensures (cells (is_leaf h) es) cut).1 ∙ ap (λ (k : ℕ). page_body k (drop c.args.at (cells (is_leaf h) es))) len
+    ∙ ap (page_body 8128) (drop-map (cell_of (is_leaf h)) c.args.at es) ∙ ap (λ (b : Bool). page_body 8128 (cells b (drop c.args.at es))) same in
     let u = used-drop (is_leaf h) es c.args.at c.place_of-place.result (c.cells_used.result - 2 * c.count_of-count.result) c.count_of-count.result c.requires.within c.place_of-place.ensures c.count_of-count.ensures
     (ap (λ (n : ℕ). n - 2 * c.count_of-count.result) c.cells_used.ensures) in
     let all = subst (λ (b : Bool). AreEntries b (drop c.args.at es)) same (entries-drop (is_leaf h) es c.args.at c.requires.within c.requires.from.entries) in
-    becomes q _ (drop c.args.at es) (shown c.split_at_mut-to_head.result.0.now c.write_two-3.new.part c.write_two-4.new.part c.split_cells.new.other (head_of q) (entries_of q) (drop c.args.at es)
+    becomes q _ (drop c.args.at es) (shown c.split_at_mut-to_head.result.0.now c.write_two-3.new.part c.write_two-4.new.part c.split_cells.new.other (page_head_of q) (entries_of q) (drop c.args.at es)
     (c.count_of-count.result - c.args.at) (c.cells_used.result - 2 * c.count_of-count.result - c.place_of-place.result + 2 * (c.count_of-count.result - c.args.at))
     c.requires.to.head all
-    (c.split_at_mut-to_head.ensures.front ∙ (page_parts q (head_of q) (entries_of q) c.requires.to).0) c.write_two-3.ensures c.write_two-4.ensures
+    (c.split_at_mut-to_head.ensures.front ∙ (page_parts q (page_head_of q) (entries_of q) c.requires.to).0) c.write_two-3.ensures c.write_two-4.ensures
     (omega (arith, length-drop c.args.at es, c.count_of-count.ensures)) (sym u ∙ ap (λ (b : Bool). used (cells b (drop c.args.at es))) same) made)

@@ -2,7 +2,7 @@ use Rattle.std.proofs.Common.{◌≡◌, ◌+◌, List, ℕ, sym, subst, arith, 
 use Rattle.std.proofs.lemmas.List.Elements.{All-drop}
 use Rattle.script_lines.specs.declared.lines.Scanned.{Scanned}
 use Rattle.script_lines.specs.declared.lines.Scanned.TheVariants.{Unended}
-use Rattle.script_lines.specs.Reading.{HasNoNewline, Drops, IsScanned}
+use Rattle.script_lines.specs.Reading.{HasNoNewline, Drops, IsNewlineScanned}
 use Rattle.script_lines.proofs.ReadingLines.{IsNoNewline, Drops-more, Drops-shorten, Drops-fails}
 use Rattle.script_lines.proofs.lines.look_ahead.Goals as goal
 
@@ -23,7 +23,7 @@ loop-dropped-preserved g c =
     let after = g.S.Source.left c.scan.new.source in
     let n = c.shorten-dropped.result in
     let is : c.in-Ok.scanned ≡ Unended = search rules in
-    let none : HasNoNewline c.scan.new.window = subst (λ (s : Scanned). IsScanned c.scan.new.window s) is ((c.in-Ok.ensures).scanned) in
+    let none : HasNoNewline c.scan.new.window = subst (λ (s : Scanned). IsNewlineScanned c.scan.new.window s) is ((c.in-Ok.ensures).scanned) in
     let more = Drops-more before (g.S.Source.left c.loop-dropped.source) after c.args.window.now c.loop-dropped.window c.scan.new.window c.loop-dropped.dropped inv.drops c.scan.ensures.pulls in
     let shorter = Drops-shorten before after c.args.window.now c.scan.new.window c.loop-dropped.dropped n more none ((c.in-Ok.ensures).long is) c.shorten-dropped.ensures.count in
     record {

@@ -1,14 +1,14 @@
-use Rattle.std.proofs.Common.{sym, subst, ◌≡◌, ◌+◌, ◌≤◌, ℕ, List, Bool, false, Option, None, Ok, Err, map, arith}
+use Rattle.std.proofs.Common.{sym, subst, ◌≡◌, ◌+◌, ◌≤◌, ℕ, List, Option, None, Ok, Err, map, arith}
 use Rattle.mdb_host.proofs.Moments.{keeps_all, keeps_on}
 use Rattle.mdb_model.specs.Runs.{last_worlds}
 use Rattle.db_kernel.specs.declared.kernel.Kernel.{Kernel}
 use Rattle.mdb_model.specs.Agreement.{Ages}
 use Rattle.mdb_model.specs.Worlds.{World}
-use Rattle.creation.specs.Standing.{Stands}
+use Rattle.standing.specs.Standing.{Stands}
 use Rattle.db_kernel.specs.declared.database.Database.{Database}
-use Rattle.db_kernel.specs.Kept.{Ready, Meets, Fits}
-use Rattle.db_kernel.specs.Working.{no_pages}
-use Rattle.script_run.specs.Progress.{IsLineText, weight_in, Progress, Turned}
+use Rattle.db_kernel.specs.Kept.{Ready, Meets, FitsWorlds}
+use Rattle.session_rows.specs.Serving.{no_pages}
+use Rattle.script_run.specs.Progress.{IsLineText, weight_in, Progress, HandlesLine}
 use Rattle.script_run.proofs.Calls.{memory_keeps}
 use Rattle.script_run.proofs.Progressing.{progress_first, progress_turned, ends_done, ends_script, ends_limit, ends_say}
 use Rattle.script_run.proofs.Turns.{start_stand, start_rest, start_serial}
@@ -31,7 +31,7 @@ loop-count-init g c =
       say_faults = omega arith;
       script = omega arith;
       progress = λ told ws off stand.
-          progress_first d f ws c.new-kernel.result.database c.in-Ok.reader (g.S.Source.left c.args.source.now) c.in-Ok.ensures (subst (λ (o : Option Database). Fits o ws) (sym none) off) stand;
+          progress_first d f ws c.new-kernel.result.database c.in-Ok.reader (g.S.Source.left c.args.source.now) c.in-Ok.ensures (subst (λ (o : Option Database). FitsWorlds o ws) (sym none) off) stand;
     }
 
 pub returns-in_default-advance-clause-promise : goal.returns-in_default-advance-clause-promise
@@ -86,7 +86,7 @@ loop-count-preserved g c =
       progress = λ told ws off stand.
           let p = inv.progress told ws off stand in
           let small : weight_in c.in-Ok-advance.kind ≤ 16777216 = omega (arith, c.if-count-gt-MOST_LINES.false, c.weight-count.ensures) in
-          let turned = subst (λ (f : List ℕ). Turned d1 d2 f1 (g.H.Host.faults c.answer.new.host) (last_worlds no_pages ws p.served.run) (IsLineText c.in-Ok-advance.kind f) c.answer.new.kernel.database (Ok c.in-Ok-answer.field-0)) c.text.ensures
+          let turned = subst (λ (f : List ℕ). HandlesLine d1 d2 f1 (g.H.Host.faults c.answer.new.host) (last_worlds no_pages ws p.served.run) (IsLineText c.in-Ok-advance.kind f) c.answer.new.kernel.database (Ok c.in-Ok-answer.field-0)) c.text.ensures
           (c.in-Ok-answer.ensures.turned told (last_worlds no_pages ws p.served.run) p.served.fit p.served.stand) in
           subst (λ (n : ℕ). Progress d0 d2 f0 (g.H.Host.faults c.answer.new.host) ws c.answer.new.kernel.database c.advance.new.self left0 left2 n) (λ i. c.loop-count.count + sym c.weight-count.ensures i)
           (progress_turned d0 d1 f0 f1 ws c.loop-count.kernel.database c.loop-count.reader left0 (g.S.Source.left c.loop-count.source) c.loop-count.count p
@@ -111,7 +111,7 @@ returns-in_default-answer-clause-promise g c told from can =
     let inv = c.loop-count.invariant in
     let worlds = map (λ (e : World × Ages). e.0) from in
     let p = inv.progress told worlds (start_rest no_pages Stands d0 from can) (start_stand no_pages Stands d0 from can) in
-    let turned = subst (λ (f : List ℕ). Turned d1 d2 f1 (g.H.Host.faults c.answer.new.host) (last_worlds no_pages worlds p.served.run) (IsLineText c.in-Ok-advance.kind f) c.answer.new.kernel.database (Err _)) c.text.ensures
+    let turned = subst (λ (f : List ℕ). HandlesLine d1 d2 f1 (g.H.Host.faults c.answer.new.host) (last_worlds no_pages worlds p.served.run) (IsLineText c.in-Ok-advance.kind f) c.answer.new.kernel.database (Err _)) c.text.ensures
     (c.in_default-answer.ensures.turned told (last_worlds no_pages worlds p.served.run) p.served.fit p.served.stand) in
     ends_say from (start_serial no_pages Stands d0 from can) d0 d1 (g.H.Host.faults c.args.host.now) f1 c.loop-count.kernel.database c.loop-count.reader
     (g.S.Source.left c.args.source.now) (g.S.Source.left c.loop-count.source) c.loop-count.count p inv.count

@@ -14,13 +14,14 @@ pub returns-in-End : goal.returns-in-End
 returns-in-End g c =
     let next_is = NextIs c.args.kernel.now.database c.args.session c.args.table c.args.after.now.items c.scan_next.new.key.items c.scan_next.new.value.items in
     let none : next_row (scanned_rows c.args.kernel.now.database c.args.session) c.args.table.0 c.args.after.now.items ≡ None = elim c.in-End.is [
-      | inl is ↦ subst (λ (n : Next). next_is n) is c.scan_next.ensures
-      | inr is ↦ let off : c.args.kernel.now.database ≡ None = subst (λ (n : Next). next_is n) is.1 c.scan_next.ensures in ap (λ (o : Option Database). next_row (scanned_rows o c.args.session) c.args.table.0 c.args.after.now.items) off
+      | inl is ↦ subst (λ (n : Next). next_is n) is c.scan_next.ensures.next
+      | inr is ↦ let off : c.args.kernel.now.database ≡ None = subst (λ (n : Next). next_is n) is.1 c.scan_next.ensures.next in ap (λ (o : Option Database). next_row (scanned_rows o c.args.session) c.args.table.0 c.args.after.now.items) off
           ∙ none_is empty c.args.table.0 c.args.after.now.items (λ other behind. get-empty place_cmp (c.args.table.0, other))
     ] in
     let d = g.H.Host.disk c.args.host.now in
     let text : [] ≡ row_text (next_row (scanned_rows c.args.kernel.now.database c.args.session) c.args.table.0 c.args.after.now.items) = ap row_text (sym none) in
     record {
+      same = c.scan_next.ensures.same;
       key = none;
       speaks = λ told. subst (λ (l : List ℕ). Speaks d d l) text (speaks_none d);
       said = λ told. sym (append-nil (d.said d.now)) ∙ ap (λ (l : List ℕ). d.said d.now ++ l) text;

@@ -1,13 +1,16 @@
-use Rattle.std.proofs.Common.{◌≡◌, refl, sym, subst, ◌∙◌, ◌<◌, Bool, true, List, ℕ, None, ◌++◌, arith}
+use Rattle.std.proofs.Common.{◌≡◌, refl, sym, subst, ◌∙◌, ◌<◌, true, false, List, ℕ, None, ◌++◌, arith}
 use Rattle.mdb_model.specs.declared.script.Reply.TheVariants.{ScanOpen}
 use Rattle.mdb_model.specs.Text.{line_of, reply_words, text_of}
 use Rattle.mdb_host.proofs.Moments.{keeps_all, keeps_on, on_ok}
 use Rattle.mdb_bytes.specs.Held.{next_row}
 use Rattle.db_kernel.specs.Kept.{scanned_rows}
-use Rattle.db_kernel.specs.Sessions.{HasKeys, scan_answer}
+use Rattle.session_rows.specs.Replies.{scan_answer}
+use Rattle.session_rows.specs.Serving.{HasKeys}
 use Rattle.script_run.specs.Speaking.{IsNextKey, rows_left}
 use Rattle.script_run.proofs.Outcomes.{caused_on, caused_err}
 use Rattle.script_run.proofs.ScanTexts.{SaidTo, rows_fewer, one_left, said_first, said_more, said_none, said_part, said_whole, said_all}
+use Rattle.db_kernel.proofs.Staying.{as_itself, as_before_on}
+use Rattle.script_run.proofs.ScanRows.{next_key_as, speaks_as, said_as}
 use Rattle.script_run.proofs.saying.say_scan.Goals as goal
 
 pub loop-rows-init : goal.loop-rows-init
@@ -15,6 +18,7 @@ loop-rows-init g c =
     let rows = scanned_rows c.args.kernel.now.database c.args.session in
     let d = g.H.Host.disk c.args.host.now in
     record {
+      same = as_itself c.args.kernel.now.database;
       rows = omega (arith, rows_fewer rows c.args.table.0 c.new-after.result.items);
       keeps = λ told. keeps_all d;
       seen = λ told e. refl;
@@ -25,15 +29,15 @@ loop-rows-init g c =
 
 pub returns-in_err-say_next-clause-keeps : goal.returns-in_err-say_next-clause-keeps
 returns-in_err-say_next-clause-keeps g c told =
-    keeps_on (g.H.Host.disk c.args.host.now) (g.H.Host.disk c.loop-rows.host) (g.H.Host.disk c.say_next.new.host) (c.loop-rows.invariant.keeps told) (c.in_err-say_next.ensures.speaks told).keeps
+    keeps_on (g.H.Host.disk c.args.host.now) (g.H.Host.disk c.loop-rows.host) (g.H.Host.disk c.say_next.new.host) (c.loop-rows.invariant.keeps told) (speaks_as c.args.kernel.now.database c.loop-rows.kernel.database c.loop-rows.invariant.same c.args.session c.args.table.0 c.loop-rows.after.items (g.H.Host.disk c.loop-rows.host) (g.H.Host.disk c.say_next.new.host) (c.in_err-say_next.ensures.speaks told)).keeps
 
 pub returns-in_err-say_next-clause-seen : goal.returns-in_err-say_next-clause-seen
-returns-in_err-say_next-clause-seen g c told e = (c.in_err-say_next.ensures.speaks told).seen e ∙ c.loop-rows.invariant.seen told e
+returns-in_err-say_next-clause-seen g c told e = (speaks_as c.args.kernel.now.database c.loop-rows.kernel.database c.loop-rows.invariant.same c.args.session c.args.table.0 c.loop-rows.after.items (g.H.Host.disk c.loop-rows.host) (g.H.Host.disk c.say_next.new.host) (c.in_err-say_next.ensures.speaks told)).seen e ∙ c.loop-rows.invariant.seen told e
 
 pub returns-in_err-say_next-clause-speaks : goal.returns-in_err-say_next-clause-speaks
 returns-in_err-say_next-clause-speaks g c told keys =
     said_part (scanned_rows c.args.kernel.now.database c.args.session) c.args.table.0 (g.H.Host.disk c.args.host.now) (g.H.Host.disk c.loop-rows.host) (g.H.Host.disk c.say_next.new.host) c.loop-rows.rows c.loop-rows.after.items
-    (c.loop-rows.invariant.said told keys) (c.in_err-say_next.ensures.speaks told)
+    (c.loop-rows.invariant.said told keys) (speaks_as c.args.kernel.now.database c.loop-rows.kernel.database c.loop-rows.invariant.same c.args.session c.args.table.0 c.loop-rows.after.items (g.H.Host.disk c.loop-rows.host) (g.H.Host.disk c.say_next.new.host) (c.in_err-say_next.ensures.speaks told))
 
 pub returns-in_err-say_next-clause-faults : goal.returns-in_err-say_next-clause-faults
 returns-in_err-say_next-clause-faults g c = c.in_err-say_next.ensures.faults ∙ c.loop-rows.invariant.faults
@@ -47,14 +51,14 @@ pub overflow_add-rows : goal.overflow_add-rows
 overflow_add-rows g c =
     let rows = scanned_rows c.args.kernel.now.database c.args.session in
     let next : IsNextKey true (next_row rows c.args.table.0 c.loop-rows.after.items) c.say_next.new.after.items =
-    subst (λ (more : Bool). IsNextKey more (next_row rows c.args.table.0 c.loop-rows.after.items) c.say_next.new.after.items) c.if-branch.true c.in_ok-say_next.ensures.key in
+    next_key_as c.args.kernel.now.database c.loop-rows.kernel.database c.loop-rows.invariant.same c.args.session c.args.table.0 c.loop-rows.after.items c.say_next.new.after.items c.in_ok-say_next.field-0 true c.if-branch.true c.in_ok-say_next.ensures.key in
     omega (arith, c.requires.few, c.loop-rows.invariant.rows, one_left rows c.args.table.0 c.loop-rows.after.items c.say_next.new.after.items next)
 
 pub loop-rows-smaller : goal.loop-rows-smaller
 loop-rows-smaller g c =
     let rows = scanned_rows c.args.kernel.now.database c.args.session in
     let next : IsNextKey true (next_row rows c.args.table.0 c.loop-rows.after.items) c.say_next.new.after.items =
-    subst (λ (more : Bool). IsNextKey more (next_row rows c.args.table.0 c.loop-rows.after.items) c.say_next.new.after.items) c.if-branch.true c.in_ok-say_next.ensures.key in
+    next_key_as c.args.kernel.now.database c.loop-rows.kernel.database c.loop-rows.invariant.same c.args.session c.args.table.0 c.loop-rows.after.items c.say_next.new.after.items c.in_ok-say_next.field-0 true c.if-branch.true c.in_ok-say_next.ensures.key in
     let smaller : rows_left rows c.args.table.0 c.say_next.new.after.items < rows_left rows c.args.table.0 c.loop-rows.after.items =
     omega (arith, one_left rows c.args.table.0 c.loop-rows.after.items c.say_next.new.after.items next) in
     smaller
@@ -66,12 +70,13 @@ loop-rows-preserved g c =
     let d1 = g.H.Host.disk c.loop-rows.host in
     let d2 = g.H.Host.disk c.say_next.new.host in
     let next : IsNextKey true (next_row rows c.args.table.0 c.loop-rows.after.items) c.say_next.new.after.items =
-    subst (λ (more : Bool). IsNextKey more (next_row rows c.args.table.0 c.loop-rows.after.items) c.say_next.new.after.items) c.if-branch.true c.in_ok-say_next.ensures.key in
+    next_key_as c.args.kernel.now.database c.loop-rows.kernel.database c.loop-rows.invariant.same c.args.session c.args.table.0 c.loop-rows.after.items c.say_next.new.after.items c.in_ok-say_next.field-0 true c.if-branch.true c.in_ok-say_next.ensures.key in
     record {
+      same = as_before_on c.args.kernel.now.database c.loop-rows.kernel.database c.say_next.new.kernel.database c.loop-rows.invariant.same c.in_ok-say_next.ensures.same;
       rows = omega (arith, c.loop-rows.invariant.rows, one_left rows c.args.table.0 c.loop-rows.after.items c.say_next.new.after.items next);
-      keeps = λ told. keeps_on d0 d1 d2 (c.loop-rows.invariant.keeps told) (c.in_ok-say_next.ensures.speaks told).keeps;
-      seen = λ told e. (c.in_ok-say_next.ensures.speaks told).seen e ∙ c.loop-rows.invariant.seen told e;
-      said = λ told keys. said_more rows c.args.table.0 d0 d1 d2 c.loop-rows.rows c.loop-rows.after.items (c.loop-rows.invariant.said told keys) c.say_next.new.after.items next (c.in_ok-say_next.ensures.speaks told) (c.in_ok-say_next.ensures.said told);
+      keeps = λ told. keeps_on d0 d1 d2 (c.loop-rows.invariant.keeps told) (speaks_as c.args.kernel.now.database c.loop-rows.kernel.database c.loop-rows.invariant.same c.args.session c.args.table.0 c.loop-rows.after.items (g.H.Host.disk c.loop-rows.host) (g.H.Host.disk c.say_next.new.host) (c.in_ok-say_next.ensures.speaks told)).keeps;
+      seen = λ told e. (speaks_as c.args.kernel.now.database c.loop-rows.kernel.database c.loop-rows.invariant.same c.args.session c.args.table.0 c.loop-rows.after.items (g.H.Host.disk c.loop-rows.host) (g.H.Host.disk c.say_next.new.host) (c.in_ok-say_next.ensures.speaks told)).seen e ∙ c.loop-rows.invariant.seen told e;
+      said = λ told keys. said_more rows c.args.table.0 d0 d1 d2 c.loop-rows.rows c.loop-rows.after.items (c.loop-rows.invariant.said told keys) c.say_next.new.after.items next (speaks_as c.args.kernel.now.database c.loop-rows.kernel.database c.loop-rows.invariant.same c.args.session c.args.table.0 c.loop-rows.after.items (g.H.Host.disk c.loop-rows.host) (g.H.Host.disk c.say_next.new.host) (c.in_ok-say_next.ensures.speaks told)) (said_as c.args.kernel.now.database c.loop-rows.kernel.database c.loop-rows.invariant.same c.args.session c.args.table.0 c.loop-rows.after.items (g.H.Host.disk c.loop-rows.host) (g.H.Host.disk c.say_next.new.host) (c.in_ok-say_next.ensures.said told));
       faults = c.in_ok-say_next.ensures.faults ∙ c.loop-rows.invariant.faults;
       say_faults = omega (arith, c.loop-rows.invariant.say_faults, c.in_ok-say_next.ensures.say_cause.later);
     }
@@ -82,10 +87,10 @@ returns-clause-keeps g c told =
     let d1 = g.H.Host.disk c.loop-rows.host in
     let d2 = g.H.Host.disk c.say_next.new.host in
     let d3 = g.H.Host.disk c.say_end.new.host in
-    keeps_on d0 d2 d3 (keeps_on d0 d1 d2 (c.loop-rows.invariant.keeps told) (c.in_ok-say_next.ensures.speaks told).keeps) (c.say_end.ensures.speaks told).keeps
+    keeps_on d0 d2 d3 (keeps_on d0 d1 d2 (c.loop-rows.invariant.keeps told) (speaks_as c.args.kernel.now.database c.loop-rows.kernel.database c.loop-rows.invariant.same c.args.session c.args.table.0 c.loop-rows.after.items (g.H.Host.disk c.loop-rows.host) (g.H.Host.disk c.say_next.new.host) (c.in_ok-say_next.ensures.speaks told)).keeps) (c.say_end.ensures.speaks told).keeps
 
 pub returns-clause-seen : goal.returns-clause-seen
-returns-clause-seen g c told e = (c.say_end.ensures.speaks told).seen e ∙ (c.in_ok-say_next.ensures.speaks told).seen e ∙ c.loop-rows.invariant.seen told e
+returns-clause-seen g c told e = (c.say_end.ensures.speaks told).seen e ∙ (speaks_as c.args.kernel.now.database c.loop-rows.kernel.database c.loop-rows.invariant.same c.args.session c.args.table.0 c.loop-rows.after.items (g.H.Host.disk c.loop-rows.host) (g.H.Host.disk c.say_next.new.host) (c.in_ok-say_next.ensures.speaks told)).seen e ∙ c.loop-rows.invariant.seen told e
 
 pub returns-clause-speaks : goal.returns-clause-speaks
 returns-clause-speaks g c told keys =
@@ -95,8 +100,8 @@ returns-clause-speaks g c told keys =
     let d2 = g.H.Host.disk c.say_next.new.host in
     let d3 = g.H.Host.disk c.say_end.new.host in
     let none : next_row rows c.args.table.0 c.loop-rows.after.items ≡ None =
-    subst (λ (more : Bool). IsNextKey more (next_row rows c.args.table.0 c.loop-rows.after.items) c.say_next.new.after.items) c.if-branch.false c.in_ok-say_next.ensures.key in
-    let s = said_none rows c.args.table.0 d0 d1 d2 c.loop-rows.rows c.loop-rows.after.items (c.loop-rows.invariant.said told keys) none (c.in_ok-say_next.ensures.speaks told) (c.in_ok-say_next.ensures.said told) in
+    next_key_as c.args.kernel.now.database c.loop-rows.kernel.database c.loop-rows.invariant.same c.args.session c.args.table.0 c.loop-rows.after.items c.say_next.new.after.items c.in_ok-say_next.field-0 false c.if-branch.false c.in_ok-say_next.ensures.key in
+    let s = said_none rows c.args.table.0 d0 d1 d2 c.loop-rows.rows c.loop-rows.after.items (c.loop-rows.invariant.said told keys) none (speaks_as c.args.kernel.now.database c.loop-rows.kernel.database c.loop-rows.invariant.same c.args.session c.args.table.0 c.loop-rows.after.items (g.H.Host.disk c.loop-rows.host) (g.H.Host.disk c.say_next.new.host) (c.in_ok-say_next.ensures.speaks told)) (said_as c.args.kernel.now.database c.loop-rows.kernel.database c.loop-rows.invariant.same c.args.session c.args.table.0 c.loop-rows.after.items (g.H.Host.disk c.loop-rows.host) (g.H.Host.disk c.say_next.new.host) (c.in_ok-say_next.ensures.said told)) in
     said_whole rows c.args.table.0 d0 d2 d3 c.loop-rows.rows c.loop-rows.after.items s none (c.say_end.ensures.speaks told)
 
 pub returns-clause-said : goal.returns-clause-said
@@ -107,11 +112,11 @@ returns-clause-said g c =
     let d2 = g.H.Host.disk c.say_next.new.host in
     let d3 = g.H.Host.disk c.say_end.new.host in
     let none : next_row rows c.args.table.0 c.loop-rows.after.items ≡ None =
-    subst (λ (more : Bool). IsNextKey more (next_row rows c.args.table.0 c.loop-rows.after.items) c.say_next.new.after.items) c.if-branch.false c.in_ok-say_next.ensures.key in
+    next_key_as c.args.kernel.now.database c.loop-rows.kernel.database c.loop-rows.invariant.same c.args.session c.args.table.0 c.loop-rows.after.items c.say_next.new.after.items c.in_ok-say_next.field-0 false c.if-branch.false c.in_ok-say_next.ensures.key in
     on_ok c.say_end.result (g.H.Host.tells → d3.said d3.now ≡ d2.said d2.now ++ line_of (reply_words c.loop-rows.rows ScanOpen))
     (g.H.Host.tells → HasKeys rows → d3.said d3.now ≡ d0.said d0.now ++ text_of (scan_answer rows c.args.table ScanOpen))
     (λ said told keys.
-    let s = said_none rows c.args.table.0 d0 d1 d2 c.loop-rows.rows c.loop-rows.after.items (c.loop-rows.invariant.said told keys) none (c.in_ok-say_next.ensures.speaks told) (c.in_ok-say_next.ensures.said told) in
+    let s = said_none rows c.args.table.0 d0 d1 d2 c.loop-rows.rows c.loop-rows.after.items (c.loop-rows.invariant.said told keys) none (speaks_as c.args.kernel.now.database c.loop-rows.kernel.database c.loop-rows.invariant.same c.args.session c.args.table.0 c.loop-rows.after.items (g.H.Host.disk c.loop-rows.host) (g.H.Host.disk c.say_next.new.host) (c.in_ok-say_next.ensures.speaks told)) (said_as c.args.kernel.now.database c.loop-rows.kernel.database c.loop-rows.invariant.same c.args.session c.args.table.0 c.loop-rows.after.items (g.H.Host.disk c.loop-rows.host) (g.H.Host.disk c.say_next.new.host) (c.in_ok-say_next.ensures.said told)) in
     said_all rows c.args.table.0 d0 d2 d3 c.loop-rows.rows c.loop-rows.after.items s none (said told)) c.say_end.ensures.said
 
 pub returns-clause-faults : goal.returns-clause-faults

@@ -2,7 +2,7 @@ use Rattle.std.proofs.Common.{◌≡◌, ℕ, List, sym, subst, arith}
 use Rattle.mdb_model.specs.Tables.{place_cmp}
 use Rattle.sorted_places.specs.Search.{IsAt, IsGap}
 use Rattle.space_rule.specs.declared.open_change.OpenChange.{OpenChange}
-use Rattle.space_rule.specs.Told.{open_place}
+use Rattle.space_rule.specs.KnownCosts.{open_place}
 use Rattle.space_rule.specs.Weighing.{IsInOrder}
 use Rattle.space_rule.proofs.Opens.{with-found, with-gap, order-at, order-gap}
 use Rattle.space_rule.proofs.open_change.put_open.Goals as goal

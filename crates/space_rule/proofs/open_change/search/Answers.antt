@@ -3,7 +3,7 @@ use Rattle.std.proofs.lemmas.Fn.{always_returns_same}
 use Rattle.mdb_model.specs.Tables.{place_cmp}
 use Rattle.sorted_places.proofs.Sorted.{searched, sorted_from_rises}
 use Rattle.sorted_places.proofs.Places.{place_total}
-use Rattle.space_rule.specs.Told.{open_place}
+use Rattle.space_rule.specs.KnownCosts.{open_place}
 use Rattle.space_rule.proofs.open_change.search.Goals as goal
 
 -- the closure gives how a change's place stands to the one that is sought

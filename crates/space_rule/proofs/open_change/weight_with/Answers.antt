@@ -1,6 +1,6 @@
 use Rattle.std.proofs.Common.{refl, arith}
 use Rattle.space_rule.specs.declared.open_change.OpenChange.{OpenChange}
-use Rattle.space_rule.specs.Told.{growth_on, undo_cost}
+use Rattle.space_rule.specs.KnownCosts.{growth_on, undo_cost}
 use Rattle.space_rule.proofs.Opens.{grown-found, bytes-at, sum-gap, growth-here}
 use Rattle.space_rule.proofs.open_change.weight_with.Goals as goal
 

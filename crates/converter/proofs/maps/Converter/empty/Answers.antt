@@ -1,6 +1,6 @@
 use Rattle.std.proofs.Common.{◌∙◌, ℕ, length, replicate, ap, refl, rules, arith}
 use Rattle.std.proofs.lemmas.List.{take_at}
-use Rattle.converter.specs.Maps.{no_entry}
+use Rattle.mdb_bytes.specs.Firsts.{no_entry}
 use Rattle.converter.proofs.Followed.{empty_on}
 use Rattle.converter.proofs.maps.Converter.empty.Goals as goal
 

@@ -9,7 +9,7 @@ use Rattle.converter.proofs.maps.Converter.kept.Goals as goal
 pub returns : goal.returns
 returns c =
     let q = c.index.result.now in
-    let b = c.args.b in
+    let b = c.args.block in
     let lt : b < length c.self.inside.owner.items = omega (arith, ap (λ (m : Maps). length m.owner) c.self.view_is, c.requires.below) in
     let frozen = c.frozen_entries.ensures q ∙ ap (λ (m : Maps). entry_at m.frozen q) (sym c.self.view_is) in
     subst (λ (m : Maps). IsTrue (c.is_at-saved.result || c.is_at-frozen.result) ↔ IsKept m b) c.self.view_is

@@ -9,7 +9,7 @@ use Rattle.converter.proofs.maps.Converter.uses.Goals as goal
 pub returns : goal.returns
 returns c =
     let q = c.index.result.now in
-    let b = c.args.b in
+    let b = c.args.block in
     let lt : b < length c.self.inside.owner.items = omega (arith, ap (λ (m : Maps). length m.owner) c.self.view_is, c.requires.below) in
     subst (λ (m : Maps). IsTrue (c.is_at-present.result || c.kept-kept.result) ↔ IsUsed m b) c.self.view_is
     (used_iff _ b q c.self.invariant.sound c.requires.some (get_or_read c.self.inside.owner.items b q lt c.index.ensures 0) c.is_at-present.result c.kept-kept.result

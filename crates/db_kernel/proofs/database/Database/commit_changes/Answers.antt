@@ -11,16 +11,16 @@ use Rattle.mdb_model.specs.declared.script.Reply.TheVariants.{Committed}
 use Rattle.mdb_model.specs.Answers.{plain, refused}
 use Rattle.mdb_model.specs.Sessions.{group_bytes}
 use Rattle.mdb_model.specs.Tables.{with_changes}
-use Rattle.creation.specs.Standing.{Made, Stands}
+use Rattle.standing.specs.Standing.{Creation, Stands}
 use Rattle.redo_ring.specs.declared.fault.RingFault.{RingFault}
 use Rattle.redo_ring.specs.declared.ring.Ring.{Ring}
 use Rattle.redo_ring.specs.Calls.{AppendAnswer, Untouched}
 use Rattle.redo_ring.specs.Ring.{Appends, Appended}
-use Rattle.transactions.specs.Ongoing.{Ongoing, changes_of, Ended}
+use Rattle.transactions.specs.Ongoing.{Ongoing, changes_of, EndsTransaction}
 use Rattle.db_kernel.specs.Sessions.{IsOpen}
 use Rattle.db_kernel.specs.Stretch.{Completes}
-use Rattle.db_kernel.specs.Working.{no_pages}
-use Rattle.db_kernel.specs.Kept.{made_of}
+use Rattle.session_rows.specs.Serving.{no_pages}
+use Rattle.db_kernel.specs.Kept.{creation_of}
 use Rattle.db_kernel.proofs.Moving.{completes, commit_none, commit_starved, commit_is_full, commit_in_doubt, commit_open}
 use Rattle.db_kernel.proofs.database.Database.commit_changes.Goals as goal
 
@@ -33,24 +33,24 @@ returns-then-changed-eq0-clause-does g c told ws holds fit stand =
     let d = c.args.self.now in
     let none : (len (changes_of d.transactions c.args.session.0) == 0) ≡ true = eq-eqb (len (changes_of d.transactions c.args.session.0)) 0 (omega (arith, c.if-changed-eq0.true, c.changed.ensures.count)) in
     completes (g.H.Host.disk c.args.host.now) ws _ _ _
-    (commit_none d.rows.rows d.transactions (made_of d) d.ring.end_position d.ring.last_commit ws fit d.rows.rows c.ended.new.self refl c.args.session c.requires.session none c.ended.ensures) stand
+    (commit_none d.rows.rows d.transactions (creation_of d) d.ring.end_position d.ring.last_commit ws fit d.rows.rows c.ended.new.self refl c.args.session c.requires.session none c.ended.ensures) stand
 
 pub returns-in_default-clause-does : goal.returns-in_default-clause-does
 returns-in_default-clause-does g c told ws holds fit stand =
     let d = c.args.self.now in
     completes (g.H.Host.disk c.args.host.now) ws _ _ _
-    (commit_starved d.rows.rows d.transactions (made_of d) d.ring.end_position d.ring.last_commit ws fit c.reserve.new.self.rows d.transactions c.reserve.ensures.rows c.args.session c.requires.session
+    (commit_starved d.rows.rows d.transactions (creation_of d) d.ring.end_position d.ring.last_commit ws fit c.reserve.new.self.rows d.transactions c.reserve.ensures.rows c.args.session c.requires.session
     (some c.changed.result (len (changes_of d.transactions c.args.session.0)) c.changed.ensures.count c.if-changed-eq0.false) refl) stand
 
 pub returns-in_default-listed-clause-does : goal.returns-in_default-listed-clause-does
 returns-in_default-listed-clause-does g c told ws holds fit stand =
     let d = c.args.self.now in
     completes (g.H.Host.disk c.args.host.now) ws _ _ _
-    (commit_starved d.rows.rows d.transactions (made_of d) d.ring.end_position d.ring.last_commit ws fit c.reserve.new.self.rows c.listed.new.self c.reserve.ensures.rows c.args.session c.requires.session
+    (commit_starved d.rows.rows d.transactions (creation_of d) d.ring.end_position d.ring.last_commit ws fit c.reserve.new.self.rows c.listed.new.self c.reserve.ensures.rows c.args.session c.requires.session
     (some c.changed.result (len (changes_of d.transactions c.args.session.0)) c.changed.ensures.count c.if-changed-eq0.false) c.listed.ensures.same) stand
 
 -- a ring with the blocks of a database
-abbrev with_blocks : (blocks : ℕ) → Ring → Made
+abbrev with_blocks : (blocks : ℕ) → Ring → Creation
 with_blocks blocks ring = record { name = ring.name; blocks = blocks; ring = ring.size }
 
 pub returns-in-Err-Failed-clause-does : goal.returns-in-Err-Failed-clause-does
@@ -59,7 +59,7 @@ returns-in-Err-Failed-clause-does g c told ws holds fit stand =
     let d0 = g.H.Host.disk c.args.host.now in
     let d1 = g.H.Host.disk c.log_changes.new.host in
     let answer = subst (λ (f : RingFault). AppendAnswer d.ring.size (d.ring.end_position - d.ring.saved_position) (d.ring.end_position - d.ring.redo_position) (group_bytes c.deref.result.now) (Err f)) c.in-Err-Failed.field-0-is c.in-Err-Failed.ensures.answer in
-    commit_in_doubt d.rows.rows d.transactions (made_of d) d.ring.end_position d.ring.last_commit ws fit c.args.session c.requires.session
+    commit_in_doubt d.rows.rows d.transactions (creation_of d) d.ring.end_position d.ring.last_commit ws fit c.args.session c.requires.session
     (some c.changed.result (len (changes_of d.transactions c.args.session.0)) c.changed.ensures.count c.if-changed-eq0.false) (omega (arith, answer.0, holds.saved, ap group_bytes (c.deref.ensures.value ∙ c.in-Ok-listed.ensures.value))) d0 d1 stand
     (subst (λ (cs : List Change). Goes d0 d1 (Appends d.ring.size d.ring.name d.ring.end_position d.ring.last_commit cs)) (c.deref.ensures.value ∙ c.in-Ok-listed.ensures.value) (c.log_changes.ensures.any_moment told))
 
@@ -75,8 +75,8 @@ returns-in-Err-Full-clause-does g c told ws holds fit stand =
     subst (λ h. Completes no_pages Stands d0 (g.H.Host.disk h) ws (Some (CommitWork c.args.session)) (refused c.log_full.result) (IsOpen c.reserve.new.self.rows c.give_back.new.self (with_blocks d.blocks r) r.end_position r.last_commit)) (sym untouched)
     (subst (λ (f : Refusal). Completes no_pages Stands d0 d0 ws (Some (CommitWork c.args.session)) (refused f) (IsOpen c.reserve.new.self.rows c.give_back.new.self (with_blocks d.blocks r) r.end_position r.last_commit)) (sym c.log_full.ensures)
     (subst (λ (x : Ring). Completes no_pages Stands d0 d0 ws (Some (CommitWork c.args.session)) (refused (LogFull (x.end_position - x.saved_position) x.size)) (IsOpen c.reserve.new.self.rows c.give_back.new.self (with_blocks d.blocks x) x.end_position x.last_commit)) (sym same)
-    (completes d0 ws (Some (CommitWork c.args.session)) (refused (LogFull (d.ring.end_position - d.ring.saved_position) d.ring.size)) (IsOpen c.reserve.new.self.rows c.give_back.new.self (made_of d) d.ring.end_position d.ring.last_commit)
-    (commit_is_full d.rows.rows d.transactions (made_of d) d.ring.end_position d.ring.last_commit ws fit c.reserve.new.self.rows c.give_back.new.self c.reserve.ensures.rows c.args.session c.requires.session
+    (completes d0 ws (Some (CommitWork c.args.session)) (refused (LogFull (d.ring.end_position - d.ring.saved_position) d.ring.size)) (IsOpen c.reserve.new.self.rows c.give_back.new.self (creation_of d) d.ring.end_position d.ring.last_commit)
+    (commit_is_full d.rows.rows d.transactions (creation_of d) d.ring.end_position d.ring.last_commit ws fit c.reserve.new.self.rows c.give_back.new.self c.reserve.ensures.rows c.args.session c.requires.session
     (some c.changed.result (len (changes_of d.transactions c.args.session.0)) c.changed.ensures.count c.if-changed-eq0.false) (d.ring.end_position - d.ring.saved_position) d.ring.size unsaved refl (c.give_back.ensures ∙ c.listed.ensures.same) (omega (arith, answer.2, unsaved, ap group_bytes (c.deref.ensures.value ∙ c.in-Ok-listed.ensures.value)))) stand)))
 
 -- nothing is needed of the log that is not unsaved
@@ -100,12 +100,12 @@ returns-clause-does g c told ws holds fit stand =
     let further : r.end_position ≡ d.ring.end_position + group_bytes c.deref.result.now = ap (λ (x : Ring). x.end_position) ok in
     let ring : c.settle.new.self.ring ≡ r = c.settle.ensures.ring in
     subst (λ (x : Ring). Completes no_pages Stands d0 d1 ws (Some (CommitWork c.args.session)) (plain (Committed x.last_commit)) (IsOpen c.settle.new.self.rows.rows c.settle.new.self.transactions (with_blocks c.settle.new.self.blocks x) x.end_position x.last_commit)) (sym ring)
-    (commit_open d.rows.rows d.transactions (made_of d) d.ring.end_position d.ring.last_commit ws fit c.args.session c.requires.session
+    (commit_open d.rows.rows d.transactions (creation_of d) d.ring.end_position d.ring.last_commit ws fit c.args.session c.requires.session
     (some c.changed.result (len (changes_of d.transactions c.args.session.0)) c.changed.ensures.count c.if-changed-eq0.false) (omega (arith, c.in-Ok-log_changes.ensures.answer.0, holds.saved, bytes)) d0 d1 stand
     (subst (λ (cs : List Change). Goes d0 d1 (Appends d.ring.size d.ring.name d.ring.end_position d.ring.last_commit cs)) (c.deref.ensures.value ∙ c.in-Ok-listed.ensures.value) (c.log_changes.ensures.any_moment told))
     (subst (λ (cs : List Change). Arrives d0 d1 (Appended d.ring.size d.ring.name d.ring.end_position d.ring.last_commit cs)) (c.deref.ensures.value ∙ c.in-Ok-listed.ensures.value) (c.in-Ok-log_changes.ensures.there told))
     (subst (λ (cs : List Change). IsTrue (list_all change_fits cs)) c.in-Ok-listed.ensures.value c.in-Ok-listed.ensures.each_fits)
     c.settle.new.self.rows.rows c.settle.new.self.transactions (with_blocks c.settle.new.self.blocks r) r.end_position r.last_commit (λ i. with_blocks (c.settle.ensures.blocks i) (ok i))
     (c.settle.ensures.rows ∙ (λ i. with_changes (values (changes_of (c.listed.ensures.same i) c.args.session.0)) (c.reserve.ensures.rows i)))
-    (subst (λ (x : Ongoing). Ended x c.settle.new.self.transactions c.args.session.0) c.listed.ensures.same c.settle.ensures.ended)
+    (subst (λ (x : Ongoing). EndsTransaction x c.settle.new.self.transactions c.args.session.0) c.listed.ensures.same c.settle.ensures.ended)
     (omega (arith, further, bytes)) (ap (λ (x : Ring). x.last_commit) ok))

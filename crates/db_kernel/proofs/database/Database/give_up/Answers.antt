@@ -1,9 +1,12 @@
-use Rattle.std.proofs.Common.{refl}
-use Rattle.db_kernel.specs.Kept.{made_of}
-use Rattle.db_kernel.proofs.Moving.{rollback_moves}
+use Rattle.mdb_model.specs.declared.script.Command.TheVariants.{RollbackWork}
+use Rattle.mdb_model.specs.Answers.{plain}
+use Rattle.db_kernel.specs.Kept.{creation_of}
+use Rattle.db_kernel.specs.Working.{working}
+use Rattle.db_kernel.proofs.Moving.{served, answered_moves}
 use Rattle.db_kernel.proofs.database.Database.give_up.Goals as goal
 
 pub returns-clause-moves : goal.returns-clause-moves
 returns-clause-moves c ws at =
     let d = c.args.self.now in
-    rollback_moves d.rows.rows d.transactions (made_of d) d.ring.end_position d.ring.last_commit ws at d.rows.rows c.rollback.new.self refl c.args.session c.requires.session c.rollback.ensures
+    answered_moves d.rows.rows d.transactions (creation_of d) d.ring.end_position d.ring.last_commit ws at d.rows.rows c.give_up.new.transactions (RollbackWork c.args.session) (plain c.give_up.result)
+    (c.give_up.ensures.answered d.rows.rows (working (creation_of d) at.commits at.sessions) (served d.rows.rows d.transactions (creation_of d) d.ring.end_position d.ring.last_commit ws at))

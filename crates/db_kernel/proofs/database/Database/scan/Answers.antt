@@ -4,9 +4,10 @@ use Rattle.mdb_model.specs.declared.script.Command.TheVariants.{ScanTable}
 use Rattle.transactions.specs.Ongoing.{changes_of}
 use Rattle.db_kernel.specs.declared.database.Access.{Access}
 use Rattle.db_kernel.specs.Kept.{IsIn}
-use Rattle.db_kernel.specs.Sessions.{scan_answer, seen_rows}
+use Rattle.session_rows.specs.Replies.{scan_answer}
+use Rattle.session_rows.specs.Scan.{seen_rows}
 use Rattle.db_kernel.proofs.Counting.{few_seen, length_values}
-use Rattle.db_kernel.proofs.Keys.{keys_after}
+use Rattle.session_rows.proofs.Keys.{keys_after}
 use Rattle.db_kernel.proofs.Kernels.{kernel_admin, kernel_online, keys_in}
 use Rattle.db_kernel.proofs.database.Database.scan.Goals as goal
 

@@ -5,7 +5,7 @@ use Rattle.mdb_model.specs.Steps.{rows_of}
 use Rattle.mdb_model.specs.declared.script.Command.TheVariants.{ScanTable}
 use Rattle.db_kernel.specs.declared.database.Database.{Database}
 use Rattle.db_kernel.specs.Kept.{scanned_rows}
-use Rattle.db_kernel.specs.Sessions.{HasKeys}
+use Rattle.session_rows.specs.Serving.{HasKeys}
 use Rattle.db_kernel.proofs.Counting.{some_rows}
 use Rattle.db_kernel.proofs.Kernels.{kernel_off}
 use Rattle.db_kernel.proofs.kernel.Kernel.scan.Goals as goal

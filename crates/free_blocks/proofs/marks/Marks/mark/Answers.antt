@@ -2,4 +2,4 @@ use Rattle.free_blocks.proofs.Bits.{mark_set}
 use Rattle.free_blocks.proofs.marks.Marks.mark.Goals as goal
 
 pub returns : goal.returns
-returns c = mark_set c.self.inside.bits.items c.args.b c.index_mut.result.now c.args.i c.args.self.now c.self.view_is c.requires.below c.requires.kind c.index_mut.ensures.value
+returns c = mark_set c.self.inside.bits.items c.args.block c.index_mut.result.now c.args.kind c.args.self.now c.self.view_is c.requires.below c.requires.kind c.index_mut.ensures.value

@@ -8,7 +8,7 @@ returns-clause-ready g c told =
 
 pub returns-clause-synced : goal.returns-clause-synced
 returns-clause-synced g c told synced image left =
-    read_synced c.args.place c.in-Some.found.0 c.in-Some.found.1 (g.H.Host.disk c.args.host.now) (g.H.Host.disk c.read_slots.new.host) c.in-Some.ensures.place (c.read_slots.ensures.calm told) synced
+    read_synced c.args.place c.in-Some.found.0 c.in-Some.found.1 (g.H.Host.disk c.args.host.now) (g.H.Host.disk c.read_slots.new.host) c.in-Some.ensures.place (c.read_slots.ensures.reads.calm told) synced
     (chosen_ready (g.H.Host.disk c.args.host.now).seen c.args.place c.in-Ok.first c.in-Ok.second (c.in-Ok.ensures.first told) (c.in-Ok.ensures.second told) c.in-Some.found.0 c.in-Some.found.1 c.in-Some.ensures)
     image left
 

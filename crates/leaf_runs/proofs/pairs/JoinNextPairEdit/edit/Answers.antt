@@ -1,6 +1,6 @@
 use Rattle.std.proofs.Common.{◌≡◌, ℕ, ap, sym, ◌∙◌, arith, refl}
 use Rattle.mdb_bytes.proofs.Booleans.{passed}
-use Rattle.row_page.specs.Entries.{head_of, is_leaf}
+use Rattle.row_page.specs.Entries.{page_head_of, is_leaf}
 use Rattle.leaf_runs.proofs.LeafLaw.{leaf_page_of}
 use Rattle.leaf_runs.proofs.LeafReads.{leaf_is, next_is}
 use Rattle.leaf_runs.proofs.LeafEdits.{named_page, cost_small, joined_by, below_each, too_full}
@@ -50,5 +50,5 @@ returns c = λ leaf next na nb up fits.
     let after : c.next_of-next.result ≡ next.next = next_is c.args.b.now next (leaf_page_of c.args.b.now next nb.0) c.next_of-next.result c.next_of-next.ensures in (
       refl,
       joined_by c.args.a.now c.args.b.now c.merge.new.into c.set_next.new.page leaf next na.0 nb.0 up c.merge.ensures.first c.set_next.ensures.page
-          (c.set_next.ensures.head ∙ ap (λ (n : ℕ). record (head_of c.merge.new.into) { next = n }) after) c.set_next.ensures.entries,
+          (c.set_next.ensures.head ∙ ap (λ (n : ℕ). record (page_head_of c.merge.new.into) { next = n }) after) c.set_next.ensures.entries,
     )

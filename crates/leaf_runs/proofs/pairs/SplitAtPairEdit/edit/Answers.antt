@@ -1,6 +1,6 @@
 use Rattle.std.proofs.Common.{◌≡◌, ℕ, ap, sym, ◌∙◌, arith, refl}
 use Rattle.mdb_bytes.proofs.Booleans.{passed}
-use Rattle.row_page.specs.Entries.{Head, head_of, is_leaf}
+use Rattle.row_page.specs.Entries.{Head, page_head_of, is_leaf}
 use Rattle.leaf_runs.proofs.LeafLaw.{leaf_page_of}
 use Rattle.leaf_runs.proofs.LeafReads.{leaf_is}
 use Rattle.leaf_runs.proofs.LeafEdits.{named_page, number_small, split_first, split_second, too_far, not_blank}
@@ -37,7 +37,7 @@ returns c = λ leaf blank na nb none le.
       split_first c.args.a.now c.split.new.from c.set_next-2.new.page leaf c.args.self.now.at c.args.self.now.to na.0 (number_small c.args.b.now blank c.args.self.now.to nb.0 nb.2) c.split.ensures.first
           c.set_next-2.ensures.page c.set_next-2.ensures.head c.set_next-2.ensures.entries,
       split_second c.args.a.now c.args.b.now c.split.new.to c.set_next.new.page leaf blank c.args.self.now.at na.0 nb.0 c.split.ensures.second
-          c.set_next.ensures.page (c.set_next.ensures.head ∙ ap (λ (n : ℕ). record (head_of c.split.new.to) { next = n }) next) c.set_next.ensures.entries,
+          c.set_next.ensures.page (c.set_next.ensures.head ∙ ap (λ (n : ℕ). record (page_head_of c.split.new.to) { next = n }) next) c.set_next.ensures.entries,
     )
 
 pub returns-then-self-count_of : goal.returns-then-self-count_of

@@ -1,5 +1,5 @@
 use Rattle.std.proofs.Common.{◌*◌, Some, ◌∙◌, ap}
-use Rattle.mdb_host.specs.Disk.{Made}
+use Rattle.mdb_host.specs.Disk.{Creates}
 use Rattle.mdb_host.specs.Memory.{image_of, with_device, zeros}
 use Rattle.mdb_host.specs.declared.call.Call.TheVariants.{Made as MadeCall}
 use Rattle.mdb_host.proofs.Kept.{idle_seen, idle_said, idle_calls, kept_seen, kept_said, made_calls, made_none}
@@ -13,7 +13,7 @@ invariant_of-self c = record {
 }
 
 pub returns-then-is_due-clause-calls : goal.returns-then-is_due-clause-calls
-returns-then-is_due-clause-calls c = idle_calls (image_of c.args.self.now.start.slots.items) c.args.self.now.calls.items c.keep_idle.new.calls.items (Made c.args.device (8192 * c.args.pages)) (made_none c.args.device (8192 * c.args.pages)) c.keep_idle.ensures
+returns-then-is_due-clause-calls c = idle_calls (image_of c.args.self.now.start.slots.items) c.args.self.now.calls.items c.keep_idle.new.calls.items (Creates c.args.device (8192 * c.args.pages)) (made_none c.args.device (8192 * c.args.pages)) c.keep_idle.ensures
 
 pub invariant_of-self-2 : goal.invariant_of-self-2
 invariant_of-self-2 c = record {

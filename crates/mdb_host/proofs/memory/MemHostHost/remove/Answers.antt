@@ -1,5 +1,5 @@
 use Rattle.std.proofs.Common.{None, ◌∙◌, ap}
-use Rattle.mdb_host.specs.Disk.{Removed}
+use Rattle.mdb_host.specs.Disk.{Removes}
 use Rattle.mdb_host.specs.Memory.{image_of, with_device}
 use Rattle.mdb_host.specs.declared.call.Call.TheVariants.{Removed as RemovedCall}
 use Rattle.mdb_host.proofs.Kept.{idle_seen, idle_said, idle_calls, kept_seen, kept_said, removed_calls, removed_none}
@@ -13,7 +13,7 @@ invariant_of-self c = record {
 }
 
 pub returns-then-is_due-clause-calls : goal.returns-then-is_due-clause-calls
-returns-then-is_due-clause-calls c = idle_calls (image_of c.args.self.now.start.slots.items) c.args.self.now.calls.items c.keep_idle.new.calls.items (Removed c.args.device) (removed_none c.args.device) c.keep_idle.ensures
+returns-then-is_due-clause-calls c = idle_calls (image_of c.args.self.now.start.slots.items) c.args.self.now.calls.items c.keep_idle.new.calls.items (Removes c.args.device) (removed_none c.args.device) c.keep_idle.ensures
 
 pub invariant_of-self-2 : goal.invariant_of-self-2
 invariant_of-self-2 c = record {

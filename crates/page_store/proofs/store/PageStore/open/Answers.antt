@@ -7,8 +7,8 @@ use Rattle.mdb_host.proofs.Moments.{same_image}
 use Rattle.volume_disk.specs.Blocks.{block_at}
 use Rattle.mdb_model.specs.declared.fault.Damage.{Damage}
 use Rattle.converter.specs.Maps.{Maps, empty_maps}
-use Rattle.converter.specs.Loads.{Breaks, IsRead, Tells}
-use Rattle.page_store.specs.Opens.{OpensTells, own_pages}
+use Rattle.converter.specs.Loads.{Breaks, IsRead, FaultReports}
+use Rattle.page_store.specs.Opens.{OpenFaultReports, own_pages}
 use Rattle.page_store.proofs.Opened.{opened_kept, opened_is, opened_known, tells_opening}
 use Rattle.page_store.proofs.store.PageStore.open.Goals as goal
 
@@ -60,7 +60,7 @@ returns-clause-known g c told =
     let freed = c.free_unused.ensures in
     let then = (g.H.Host.disk c.args.host.now).seen in
     let now = (g.H.Host.disk c.load.new.host).seen in
-    let there : IsArea sizes now = subst (λ (x : Image). IsArea sizes x) (same_image then now (c.in-Ok-load.ensures.seen told)) (subst (λ (l : List ℕ). IsArea l then) (sym c.new-volumes.ensures) (c.requires.there told)) in
+    let there : IsArea sizes now = subst (λ (x : Image). IsArea sizes x) (same_image then now (c.in-Ok-load.ensures.reads.seen told)) (subst (λ (l : List ℕ). IsArea l then) (sym c.new-volumes.ensures) (c.requires.there told)) in
     opened_known m n c.args.rec.now.savepoint c.free_unused.new.free c.in-Ok.room.marks sizes c.in-Ok.room.frames.items c.in-Ok.room.states.items c.in-Ok.room.pinned.items c.leaves-leaves.ensures.sound loaded area freed r.marks count r.frames r.states places c.requires.number g.H.Host.tells now told there
 
 pub returns-clause-whole : goal.returns-clause-whole
@@ -86,10 +86,10 @@ returns-in-Err-clause-broken g c =
     let owner : length c.in-Ok.room.converter.owner ≡ n = ap (λ (x : Maps). length x.owner) r.converter ∙ length-replicate n 0 in
     let conv : c.load.new.self.conv ≡ own_pages n = ap (λ (x : Maps). x.conv) e.empty ∙ ap own_pages owner in
     let count : n ≡ sum items = c.blocks-blocks.ensures.count ∙ ap sum c.new-volumes.ensures in
-    let told : Tells (λ damage. g.H.Host.tells → Breaks items (own_pages (sum items)) (sum items) root (block_at items then) damage) c.in-Err.fault =
-    subst (λ (k : ℕ). Tells (λ damage. g.H.Host.tells → Breaks items (own_pages k) k root (block_at items then) damage) c.in-Err.fault) count
-    (subst (λ (l : List ℕ). Tells (λ damage. g.H.Host.tells → Breaks l (own_pages n) n root (block_at l then) damage) c.in-Err.fault) c.new-volumes.ensures
-    (subst (λ (k : ℕ). Tells (λ damage. g.H.Host.tells → Breaks c.new-volumes.result k n root (block_at c.new-volumes.result then) damage) c.in-Err.fault) conv
-    (subst (λ (k : ℕ). Tells (λ damage. g.H.Host.tells → Breaks c.new-volumes.result c.load.new.self.conv k root (block_at c.new-volumes.result then) damage) c.in-Err.fault) owner e.broken))) in
-    subst (λ fault. OpensTells (λ damage. g.H.Host.tells → Breaks items (own_pages (sum items)) (sum items) root (block_at items then) damage) fault) (sym c.of_opening.ensures)
+    let told : FaultReports (λ damage. g.H.Host.tells → Breaks items (own_pages (sum items)) (sum items) root (block_at items then) damage) c.in-Err.fault =
+    subst (λ (k : ℕ). FaultReports (λ damage. g.H.Host.tells → Breaks items (own_pages k) k root (block_at items then) damage) c.in-Err.fault) count
+    (subst (λ (l : List ℕ). FaultReports (λ damage. g.H.Host.tells → Breaks l (own_pages n) n root (block_at l then) damage) c.in-Err.fault) c.new-volumes.ensures
+    (subst (λ (k : ℕ). FaultReports (λ damage. g.H.Host.tells → Breaks c.new-volumes.result k n root (block_at c.new-volumes.result then) damage) c.in-Err.fault) conv
+    (subst (λ (k : ℕ). FaultReports (λ damage. g.H.Host.tells → Breaks c.new-volumes.result c.load.new.self.conv k root (block_at c.new-volumes.result then) damage) c.in-Err.fault) owner e.broken))) in
+    subst (λ fault. OpenFaultReports (λ damage. g.H.Host.tells → Breaks items (own_pages (sum items)) (sum items) root (block_at items then) damage) fault) (sym c.of_opening.ensures)
     (tells_opening (λ damage. g.H.Host.tells → Breaks items (own_pages (sum items)) (sum items) root (block_at items then) damage) c.in-Err.fault told)

@@ -1,6 +1,6 @@
 use Rattle.std.proofs.Common.{sym, subst}
 use Rattle.mdb_host.proofs.Moments.{on_ok}
-use Rattle.volume_disk.specs.Blocks.{IsArea, IsSettled}
+use Rattle.volume_disk.specs.Blocks.{IsArea, IsDurable}
 use Rattle.page_store.specs.Store.{Store}
 use Rattle.page_store.proofs.Knowing.{agree_known}
 use Rattle.page_store.proofs.Released.{frozen_pages}
@@ -14,7 +14,7 @@ returns-clause-pages g c = on_ok c.pages_done.result _ _ (λ done known.
     let s = c.args.self.now in
     let e = c.blocks-blocks.ensures in
     let after = g.H.Host.disk c.pages_done.new.host in
-    frozen_pages g.H.Host.tells s (g.H.Host.disk c.args.host.now) after e.sound e.store c.pages_done.ensures.seen (λ told. subst (λ (t : Store). IsSettled t.sizes after) c.self.view_is (done told)) known) c.pages_done.ensures.settled
+    frozen_pages g.H.Host.tells s (g.H.Host.disk c.args.host.now) after e.sound e.store c.pages_done.ensures.seen (λ told. subst (λ (t : Store). IsDurable t.sizes after) c.self.view_is (done told)) known) c.pages_done.ensures.settled
 
 pub returns-clause-known : goal.returns-clause-known
 returns-clause-known g c known =

@@ -5,18 +5,18 @@ use Rattle.page_store.proofs.PageSteps.{held_back}
 use Rattle.page_store.proofs.Readying.{ready_is}
 use Rattle.page_store.proofs.store.PageStore.ready.Goals as goal
 
-pub pay-b-requires-clause-lives : goal.pay-b-requires-clause-lives
-pay-b-requires-clause-lives g c =
+pub pay-block-requires-clause-lives : goal.pay-block-requires-clause-lives
+pay-block-requires-clause-lives g c =
     let shows = c.in_ok-filled.ensures.shows in
     omega (arith, shows.was, shows.block, c.requires.lives)
 
-pub pay-b-requires-clause-framed : goal.pay-b-requires-clause-framed
-pay-b-requires-clause-framed g c =
+pub pay-block-requires-clause-framed : goal.pay-block-requires-clause-framed
+pay-block-requires-clause-framed g c =
     let shows = c.in_ok-filled.ensures.shows in
     (shows.framed.0, ap (frame_of c.filled.new.self) shows.block ∙ shows.framed.1)
 
-pub pay-b-requires-clause-spare : goal.pay-b-requires-clause-spare
-pay-b-requires-clause-spare g c held =
+pub pay-block-requires-clause-spare : goal.pay-block-requires-clause-spare
+pay-block-requires-clause-spare g c held =
     let shows = c.in_ok-filled.ensures.shows in
     let s = c.args.self.now in
     let m = c.filled.new.self in
@@ -26,5 +26,5 @@ pay-b-requires-clause-spare g c held =
 pub returns-clause-ready : goal.returns-clause-ready
 returns-clause-ready g c =
     let shows = c.in_ok-filled.ensures.shows in
-    ready_is g.H.Host.tells c.args.self.now c.filled.new.self c.pay-b.new.self c.args.page c.in_ok-filled.field-0 c.pay-b.result (g.H.Host.disk c.args.host.now).seen
-    (omega (arith, shows.was, c.requires.lives)) shows c.in_ok-filled.ensures.store (omega (arith, c.filled.ensures.page, shows.step.keeps.area)) c.blocks-blocks.ensures.sound c.pay-b.ensures
+    ready_is g.H.Host.tells c.args.self.now c.filled.new.self c.pay-block.new.self c.args.page c.in_ok-filled.field-0 c.pay-block.result (g.H.Host.disk c.args.host.now).seen
+    (omega (arith, shows.was, c.requires.lives)) shows c.in_ok-filled.ensures.store (omega (arith, c.filled.ensures.page, shows.step.keeps.area)) c.blocks-blocks.ensures.sound c.pay-block.ensures

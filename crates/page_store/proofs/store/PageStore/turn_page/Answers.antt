@@ -11,7 +11,7 @@ write_frame-requires-clause-changed g c = sym c.if-not-is_newer.ensures
 pub returns-then-not-is_newer : goal.returns-then-not-is_newer
 returns-then-not-is_newer g c =
     let s = c.args.self.now in
-    let none : is_unwritten s c.args.page ≡ false = ap (has_changed s) (sym c.frozen_at-b.ensures.block) ∙ sym c.if-not-is_newer.ensures in
+    let none : is_unwritten s c.args.page ≡ false = ap (has_changed s) (sym c.frozen_at-block.ensures.block) ∙ sym c.if-not-is_newer.ensures in
     record {
       turns = turns_none g.H.Host.tells s (g.H.Host.disk c.args.host.now) c.args.page;
       done = sym (ap bit none);
@@ -26,7 +26,7 @@ returns-then-not-is_newer g c =
 pub returns-then-not-may : goal.returns-then-not-may
 returns-then-not-may g c =
     let s = c.args.self.now in
-    let some : is_unwritten s c.args.page ≡ true = ap (has_changed s) (sym c.frozen_at-b.ensures.block) ∙ sym c.if-not-is_newer.ensures in
+    let some : is_unwritten s c.args.page ≡ true = ap (has_changed s) (sym c.frozen_at-block.ensures.block) ∙ sym c.if-not-is_newer.ensures in
     record {
       turns = turns_none g.H.Host.tells s (g.H.Host.disk c.args.host.now) c.args.page;
       done = sym (ap bit some);
@@ -41,31 +41,31 @@ returns-then-not-may g c =
 pub returns-in-Ok-clause-turns : goal.returns-in-Ok-clause-turns
 returns-in-Ok-clause-turns g c =
     let s = c.args.self.now in
-    let e = c.frozen_at-b.ensures in
+    let e = c.frozen_at-block.ensures in
     let before = g.H.Host.disk c.args.host.now in
     let after = g.H.Host.disk c.write_frame.new.host in
     subst (λ (t : Store). TurnsPage g.H.Host.tells s t before after c.args.page) (sym c.in-Ok.ensures.ok)
-    (turns_one g.H.Host.tells s c.args.page c.frozen_at-b.result before after e.sound e.store e.block (sym c.if-not-is_newer.ensures) c.write_frame.ensures.calls c.in-Ok.ensures.written)
+    (turns_one g.H.Host.tells s c.args.page c.frozen_at-block.result before after e.sound e.store e.block (sym c.if-not-is_newer.ensures) c.write_frame.ensures.calls c.in-Ok.ensures.written)
 
 pub returns-in-Ok-clause-done : goal.returns-in-Ok-clause-done
 returns-in-Ok-clause-done g c =
     let s = c.args.self.now in
-    sym (ap bit (ap (has_changed s) (sym c.frozen_at-b.ensures.block) ∙ sym c.if-not-is_newer.ensures))
+    sym (ap bit (ap (has_changed s) (sym c.frozen_at-block.ensures.block) ∙ sym c.if-not-is_newer.ensures))
 
 pub returns-in-Ok-clause-left : goal.returns-in-Ok-clause-left
 returns-in-Ok-clause-left g c =
     let s = c.args.self.now in
-    let e = c.frozen_at-b.ensures in
+    let e = c.frozen_at-block.ensures in
     let before = g.H.Host.disk c.args.host.now in
     let after = g.H.Host.disk c.write_frame.new.host in
     sym (ap bit (ap (λ (t : Store). is_unwritten t c.args.page) c.in-Ok.ensures.ok
-    ∙ turned_here g.H.Host.tells s c.args.page c.frozen_at-b.result before after e.sound e.store e.block (sym c.if-not-is_newer.ensures) c.write_frame.ensures.calls))
+    ∙ turned_here g.H.Host.tells s c.args.page c.frozen_at-block.result before after e.sound e.store e.block (sym c.if-not-is_newer.ensures) c.write_frame.ensures.calls))
 
 pub returns-in-Err-clause-turns : goal.returns-in-Err-clause-turns
 returns-in-Err-clause-turns g c =
     let s = c.args.self.now in
-    let e = c.frozen_at-b.ensures in
+    let e = c.frozen_at-block.ensures in
     let before = g.H.Host.disk c.args.host.now in
     let after = g.H.Host.disk c.write_frame.new.host in
     subst (λ (t : Store). TurnsPage g.H.Host.tells s t before after c.args.page) (sym c.in-Err.ensures.err)
-    (turns_not g.H.Host.tells s c.args.page c.frozen_at-b.result before after e.sound e.store e.block (sym c.if-not-is_newer.ensures) c.write_frame.ensures.calls)
+    (turns_not g.H.Host.tells s c.args.page c.frozen_at-block.result before after e.sound e.store e.block (sym c.if-not-is_newer.ensures) c.write_frame.ensures.calls)

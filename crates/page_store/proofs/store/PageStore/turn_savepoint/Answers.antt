@@ -2,7 +2,7 @@ use Rattle.std.proofs.Common.{◌≡◌, ◌∙◌, ◌+◌, ◌-◌, ◌<◌, �
 use Rattle.volume_disk.specs.Blocks.{IsArea}
 use Rattle.volume_disk.proofs.Writes.{area_same}
 use Rattle.std.proofs.lemmas.Bool.{cases_lt, lt-ltb, le-ltb}
-use Rattle.page_store.specs.Store.{blocks_of}
+use Rattle.page_store.specs.Store.{block_count}
 use Rattle.page_store.specs.Steps.{is_unwritten, unwritten_below}
 use Rattle.page_store.specs.StepLaws.{keeps_itself, keeps_further}
 use Rattle.page_store.proofs.Settling.{bit, turned_on, same_below, below_more, none_below, none_past}
@@ -69,13 +69,13 @@ pub returns-clause-left : goal.returns-clause-left
 returns-clause-left g c =
     let s = c.args.self.now in
     let i = c.loop-page.invariant in
-    let end : c.loop-page.page ≡ blocks_of s = omega (arith, c.loop-page-test.false, c.loop-page.auto.page-end, c.blocks-page-end.ensures.count) in
+    let end : c.loop-page.page ≡ block_count s = omega (arith, c.loop-page-test.false, c.loop-page.auto.page-end, c.blocks-page-end.ensures.count) in
     i.over ∙ ap (λ (n : ℕ). unwritten_below s n - c.args.most) end
 
 pub returns-clause-now : goal.returns-clause-now
 returns-clause-now g c =
     let i = c.loop-page.invariant in
-    let end : c.loop-page.page ≡ blocks_of c.loop-page.self = omega (arith, c.loop-page-test.false, c.loop-page.auto.page-end, c.blocks-page-end.ensures.count, i.keeps.maps.area) in
+    let end : c.loop-page.page ≡ block_count c.loop-page.self = omega (arith, c.loop-page-test.false, c.loop-page.auto.page-end, c.blocks-page-end.ensures.count, i.keeps.maps.area) in
     ap (unwritten_below c.loop-page.self) (sym end) ∙ sym i.still
 
 pub returns-clause-done : goal.returns-clause-done
@@ -83,8 +83,8 @@ returns-clause-done g c none page =
     let i = c.loop-page.invariant in
     let u = c.loop-page.self in
     let e = c.blocks-blocks.ensures in
-    let end : c.loop-page.page ≡ blocks_of u = omega (arith, c.loop-page-test.false, c.loop-page.auto.page-end, c.blocks-page-end.ensures.count, i.keeps.maps.area) in
-    elim (cases_lt page (blocks_of u)) [
+    let end : c.loop-page.page ≡ block_count u = omega (arith, c.loop-page-test.false, c.loop-page.auto.page-end, c.blocks-page-end.ensures.count, i.keeps.maps.area) in
+    elim (cases_lt page (block_count u)) [
       | inl lt ↦ none_below u c.loop-page.page page (omega (arith, i.still, none)) (omega (arith, lt, end))
       | inr past ↦ none_past u page e.sound e.store past
     ]

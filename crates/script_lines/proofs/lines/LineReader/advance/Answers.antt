@@ -1,5 +1,5 @@
 use Rattle.std.proofs.Common.{◌≡◌, ◌∙◌, ℕ, List, refl, sym, ap, subst}
-use Rattle.script_lines.specs.Reading.{Reading, Drops, Stays, IsFound}
+use Rattle.script_lines.specs.Reading.{Reading, Drops, PullsNoNewline, IsLineFound}
 use Rattle.script_lines.proofs.ReadingSteps.{Advances-found, Advances-failed}
 use Rattle.script_lines.proofs.lines.LineReader.advance.Goals as goal
 
@@ -13,7 +13,7 @@ returns-clause-advances g c =
     (sym (ap (λ (r : Reading). r.at_end) c.self.view_is) ∙ c.if-self.false)
     (subst (λ (bs : List ℕ). Drops before after bs ahead.dropped c.look_ahead.new.window) rest ((c.in-Ok.ensures).drops))
     ((c.in-Ok.ensures).scanned) ((c.in-Ok.ensures).end) ((c.in-Ok.ensures).endless)
-    (subst (λ (bs : List ℕ). IsFound bs ahead.dropped ahead.scanned c.find-found.result) c.bytes.ensures.value c.find-found.ensures) refl
+    (subst (λ (bs : List ℕ). IsLineFound bs ahead.dropped ahead.scanned c.find-found.result) c.bytes.ensures.value c.find-found.ensures) refl
 
 pub returns-in_default-clause-advances : goal.returns-in_default-clause-advances
 returns-in_default-clause-advances g c =
@@ -21,4 +21,4 @@ returns-in_default-clause-advances g c =
     let after = g.S.Source.left c.look_ahead.new.source in
     let rest : c.skip.new.self ≡ c.args.self.now.rest = c.skip.ensures ∙ ap (λ (r : Reading). r.rest) c.self.view_is in
     Advances-failed before after c.args.self.now c.look_ahead.new.window (sym (ap (λ (r : Reading). r.at_end) c.self.view_is) ∙ c.if-self.false)
-    (subst (λ (bs : List ℕ). Stays before after bs c.look_ahead.new.window) rest ((c.in_default.ensures).failed))
+    (subst (λ (bs : List ℕ). PullsNoNewline before after bs c.look_ahead.new.window) rest ((c.in_default.ensures).failed))

@@ -1,5 +1,5 @@
 use Rattle.std.proofs.Common.{◌-◌, ◌<◌, refl, ap, ◌∙◌, get_or, set, length, take, arith}
-use Rattle.space_rule.specs.Told.{changes_at, cost_now, cost_before}
+use Rattle.space_rule.specs.KnownCosts.{changes_at, cost_now, cost_before}
 use Rattle.space_rule.specs.Weighing.{lists}
 use Rattle.space_rule.proofs.Noting.{lists-at, lists-set, lists-length}
 use Rattle.space_rule.proofs.Settling.{no_change, last-parts, growth-le, not-more, after-settle, ended-rest, fewer-now}

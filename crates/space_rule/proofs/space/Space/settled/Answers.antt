@@ -1,6 +1,6 @@
 use Rattle.std.proofs.Common.{◌+◌, ◌-◌, get_or, length, cond, refl, ap, ◌∙◌, arith}
 use Rattle.std.specs.Prelude.{unwrap_or}
-use Rattle.space_rule.specs.Told.{row_cost, cost_now, cost_before}
+use Rattle.space_rule.specs.KnownCosts.{cost_of_lengths, cost_now, cost_before}
 use Rattle.space_rule.specs.Weighing.{lists}
 use Rattle.space_rule.proofs.Settling.{range, key-small, growth-le, old-pages, small, new-pages, new-undo, not-more, no-more-along}
 use Rattle.space_rule.proofs.space.Space.settled.Goals as goal
@@ -30,7 +30,7 @@ overflow_sub-grown c =
     let self = c.args.self.now in
     let x = c.args.change.now in
     let range = range self.committed self.grown (lists self.sessions) self.undo_bytes self.pages self.undo c.args.session x c.requires.last.0 self.sums c.requires.session c.requires.last.1 in
-    let growth_is = c.growth.ensures ∙ ap (λ k. row_cost (length k) x.now - row_cost (length k) x.before) c.bytes-key.ensures in
+    let growth_is = c.growth.ensures ∙ ap (λ k. cost_of_lengths (length k) x.now - cost_of_lengths (length k) x.before) c.bytes-key.ensures in
     no-more-along _ _ _ growth_is (growth-le self.committed self.grown (lists self.sessions) self.undo_bytes self.pages self.undo c.args.session x c.requires.last.0 self.sums c.requires.session c.requires.last.1)
 
 pub overflow_sub-result : goal.overflow_sub-result
@@ -45,9 +45,9 @@ table_page_count-requires-2 c =
     let self = c.args.self.now in
     let x = c.args.change.now in
     let range = range self.committed self.grown (lists self.sessions) self.undo_bytes self.pages self.undo c.args.session x c.requires.last.0 self.sums c.requires.session c.requires.last.1 in
-    let growth_is = c.growth.ensures ∙ ap (λ k. row_cost (length k) x.now - row_cost (length k) x.before) c.bytes-key.ensures in
-    let now_is = c.row_cost-now.ensures.cost ∙ ap (λ k. row_cost (length k) x.now) c.bytes-key.ensures in
-    let before_is = c.row_cost-before.ensures.cost ∙ ap (λ k. row_cost (length k) x.before) c.bytes-key.ensures in
+    let growth_is = c.growth.ensures ∙ ap (λ k. cost_of_lengths (length k) x.now - cost_of_lengths (length k) x.before) c.bytes-key.ensures in
+    let now_is = c.row_cost-now.ensures.cost ∙ ap (λ k. cost_of_lengths (length k) x.now) c.bytes-key.ensures in
+    let before_is = c.row_cost-before.ensures.cost ∙ ap (λ k. cost_of_lengths (length k) x.before) c.bytes-key.ensures in
     let cost_is = c.settled_cost-committed.ensures ∙ ap (λ n. cond c.args.is_commit ((get_or self.committed x.table.0 0 + n) - c.row_cost-before.result) (get_or self.committed x.table.0 0)) now_is
     ∙ ap (λ n. cond c.args.is_commit ((get_or self.committed x.table.0 0 + cost_now x) - n) (get_or self.committed x.table.0 0)) before_is in
     let no_more = not-more c.args.is_commit c.settled_cost-committed.result (get_or self.committed x.table.0 0) (cost_now x) (cost_before x) (get_or self.grown x.table.0 0) cost_is (growth-le self.committed self.grown (lists self.sessions) self.undo_bytes self.pages self.undo c.args.session x c.requires.last.0 self.sums c.requires.session c.requires.last.1) in
@@ -60,9 +60,9 @@ returns-clause-sums c xs popped =
     let self = c.args.self.now in
     let x = c.args.change.now in
     let range = range self.committed self.grown (lists self.sessions) self.undo_bytes self.pages self.undo c.args.session x xs self.sums c.requires.session popped in
-    let growth_is = c.growth.ensures ∙ ap (λ k. row_cost (length k) x.now - row_cost (length k) x.before) c.bytes-key.ensures in
-    let now_is = c.row_cost-now.ensures.cost ∙ ap (λ k. row_cost (length k) x.now) c.bytes-key.ensures in
-    let before_is = c.row_cost-before.ensures.cost ∙ ap (λ k. row_cost (length k) x.before) c.bytes-key.ensures in
+    let growth_is = c.growth.ensures ∙ ap (λ k. cost_of_lengths (length k) x.now - cost_of_lengths (length k) x.before) c.bytes-key.ensures in
+    let now_is = c.row_cost-now.ensures.cost ∙ ap (λ k. cost_of_lengths (length k) x.now) c.bytes-key.ensures in
+    let before_is = c.row_cost-before.ensures.cost ∙ ap (λ k. cost_of_lengths (length k) x.before) c.bytes-key.ensures in
     let cost_is = c.settled_cost-committed.ensures ∙ ap (λ n. cond c.args.is_commit ((get_or self.committed x.table.0 0 + n) - c.row_cost-before.result) (get_or self.committed x.table.0 0)) now_is
     ∙ ap (λ n. cond c.args.is_commit ((get_or self.committed x.table.0 0 + cost_now x) - n) (get_or self.committed x.table.0 0)) before_is in
     let no_more = not-more c.args.is_commit c.settled_cost-committed.result (get_or self.committed x.table.0 0) (cost_now x) (cost_before x) (get_or self.grown x.table.0 0) cost_is (growth-le self.committed self.grown (lists self.sessions) self.undo_bytes self.pages self.undo c.args.session x xs self.sums c.requires.session popped) in

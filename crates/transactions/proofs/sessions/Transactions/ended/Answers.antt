@@ -4,5 +4,5 @@ use Rattle.transactions.proofs.sessions.Transactions.ended.Goals as goal
 pub invariant_of-self : goal.invariant_of-self
 invariant_of-self c = record {
   small = c.self.invariant.small;
-  locked = locked-ended c.self.inside.locks c.release.new.self c.self.inside.sessions c.self.invariant.locked c.args.s.0 c.index-self-s.result c.clear.new.self c.release.ensures c.clear.ensures;
+  locked = locked-ended c.self.inside.locks c.release.new.self c.self.inside.sessions c.self.invariant.locked c.args.session.0 c.index-self-session.result c.clear.new.self c.release.ensures c.clear.ensures;
 }

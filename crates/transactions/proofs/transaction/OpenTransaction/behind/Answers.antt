@@ -7,7 +7,7 @@ use Rattle.mdb_model.specs.Tables.{place_cmp, place_of}
 use Rattle.mdb_bytes.specs.Fields.{rises}
 use Rattle.sorted_places.specs.Search.{IsPast}
 use Rattle.sorted_places.proofs.Sorted.{sorted_from_rises}
-use Rattle.transactions.specs.Net.{placed}
+use Rattle.transactions.specs.Net.{keyed_change}
 use Rattle.transactions.proofs.NetLists.{kept_values, rest_behind}
 use Rattle.transactions.proofs.transaction.OpenTransaction.behind.Goals as goal
 
@@ -21,15 +21,15 @@ returns-clause-behind c =
     let place : c.new-place.result ≡
     (c.args.table.0, c.args.after.now.items) = c.new-place.ensures
     ∙ ap (λ (k : List ℕ). (c.args.table.0, k)) c.copied_key.ensures in
-    let between : c.range.result ≡ drop rest.0 (map placed cs) =
+    let between : c.range.result ≡ drop rest.0 (map keyed_change cs) =
     c.range.ensures.between tt
     ∙ (λ i. entries_between place_cmp (Excluded (place i)) Unbounded (kept.own i))
     ∙ rest.2 in
     let whole : (at : ℕ) × IsPast place_of cs c.args.table.0 c.args.after.now.items at ×
-    (c.range.result ≡ drop at (map placed cs)) = (rest.0, rest.1, between) in
+    (c.range.result ≡ drop at (map keyed_change cs)) = (rest.0, rest.1, between) in
     subst (λ (vs : List Change).
     (at : ℕ) × IsPast place_of vs c.args.table.0 c.args.after.now.items at × (c.range.result
-    ≡ drop at (map placed vs)))
+    ≡ drop at (map keyed_change vs)))
     (kept_values es kept c.args.self.now c.self.view_is) whole
 
 pub returns-clause-ascend : goal.returns-clause-ascend

@@ -3,7 +3,7 @@ use Rattle.std.specs.FinMap.{FinMap, get, find, get-from_sorted}
 use Rattle.std.specs.Map.{values_of}
 use Rattle.mdb_model.specs.declared.change.Change.{Change}
 use Rattle.mdb_model.specs.Tables.{Place, place_cmp, place_of}
-use Rattle.transactions.specs.Net.{placed}
+use Rattle.transactions.specs.Net.{keyed_change}
 use Rattle.sorted_places.proofs.Sorted.{sorted_from_rises}
 use Rattle.transactions.proofs.transaction.OpenTransaction.get.Goals as goal
 
@@ -13,6 +13,6 @@ returns c =
     let cs = values_of c.self.inside.changes.entries in
     c.find_change.ensures ∙ ap (λ (es : List
     (Place × Change)). find place_cmp place es) c.self.invariant.kept.own
-    ∙ sym (get-from_sorted place_cmp (map placed cs) place (sorted_from_rises place_cmp place_of
+    ∙ sym (get-from_sorted place_cmp (map keyed_change cs) place (sorted_from_rises place_cmp place_of
     (λ change. change) cs c.self.invariant.kept.net.ascend))
     ∙ ap (λ (m : FinMap place_cmp Change). get m place) c.self.view_is

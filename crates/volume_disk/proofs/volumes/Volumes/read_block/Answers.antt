@@ -5,9 +5,9 @@ use Rattle.volume_disk.proofs.volumes.Volumes.read_block.Goals as goal
 
 pub read-requires-clause-within : goal.read-requires-clause-within
 read-requires-clause-within g c told =
-    moved_within c.args.self.now (g.H.Host.disk c.args.host.now).seen c.args.b _ _ _ c.place_of-volume.ensures.volume c.place_of-volume.ensures.page (omega arith) (block_within c.args.self.now (g.H.Host.disk c.args.host.now).seen c.args.b c.requires.below (c.requires.area told))
+    moved_within c.args.self.now (g.H.Host.disk c.args.host.now).seen c.args.block _ _ _ c.place_of-volume.ensures.volume c.place_of-volume.ensures.page (omega arith) (block_within c.args.self.now (g.H.Host.disk c.args.host.now).seen c.args.block c.requires.below (c.requires.area told))
 
 pub returns-clause-bytes : goal.returns-clause-bytes
 returns-clause-bytes g c = on_ok c.read.result _ _ (λ has told.
-    sym (has_block c.args.self.now (g.H.Host.disk c.args.host.now).seen c.args.b c.read.new.into c.requires.below (c.requires.area told) (omega arith)
-    (moved_has c.args.self.now (g.H.Host.disk c.args.host.now).seen c.args.b _ _ _ c.place_of-volume.ensures.volume c.place_of-volume.ensures.page (has told)))) c.read.ensures.bytes
+    sym (has_block c.args.self.now (g.H.Host.disk c.args.host.now).seen c.args.block c.read.new.into c.requires.below (c.requires.area told) (omega arith)
+    (moved_has c.args.self.now (g.H.Host.disk c.args.host.now).seen c.args.block _ _ _ c.place_of-volume.ensures.volume c.place_of-volume.ensures.page (has told)))) c.read.ensures.bytes

@@ -1,0 +1,9 @@
+pub mod Entries
+pub mod Lines
+pub mod Answering
+pub mod Calls
+pub mod AnyPages
+pub mod NetRows
+pub mod Keys
+pub mod Behind
+pub mod Scans

@@ -1,0 +1,2 @@
+pub mod ShownMaps
+pub mod Saving
