@@ -305,7 +305,7 @@ impl Kernel {
         requires off { self.old.database ≡ None }
         ensures takes { TakesLine H.tells (H.disk host.old) (H.disk host.new) (H.faults host.old)
             (H.faults host.new) self.old.database self.new.database (opens access) result }
-        ensures does { H.tells → (ws : List World) → Fits None ws
+        ensures does { H.tells → (ws : List World) → FitsWorlds None ws
             → LeavesOnly no_pages Stands (H.disk host.old) ws
             → Completes no_pages Stands (H.disk host.old) (H.disk host.new) ws (Some (opens access))
             (plain result) (FitsWorlds self.new.database) }

@@ -28,7 +28,7 @@ pub returns-clause-ok : goal.returns-clause-ok
 returns-clause-ok g c =
     let long : length c.encode_group.new.into ≡ group_bytes c.args.changes.now =
     (group_long (record { name = c.args.ring.now.name; number = c.args.ring.now.last_commit + 1; changes = c.args.changes.now }) c.encode_group.new.into c.encode_group.ensures).0 in
-    subst (λ (n : ℕ). OnOk c.append.result (c.append.new.self ≡ record { name = c.args.ring.now.name; size = c.args.ring.now.size; redo_position = c.args.ring.now.redo_position; saved_position = c.args.ring.now.saved_position; end_position = c.args.ring.now.end_position + n; last_commit = c.args.ring.now.last_commit + 1 })) long c.append.ensures.ok
+    subst (λ (n : ℕ). OnOk c.append.result (c.append.new.self ≡ record c.args.ring.now { end_position = c.args.ring.now.end_position + n; last_commit = c.args.ring.now.last_commit + 1 })) long c.append.ensures.ok
 
 pub returns-clause-log : goal.returns-clause-log
 returns-clause-log g c =

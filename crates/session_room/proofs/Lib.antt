@@ -1,0 +1,3 @@
+pub mod Sorted
+pub mod Changing
+pub mod SessionRoom
