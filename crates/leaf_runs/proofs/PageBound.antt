@@ -1,20 +1,24 @@
 -- The space rule bounds the leaves of a run.
 --     leaf_bound      this many leaves where the rows cost this much
 --     cost_of_table      what the rows of a table cost
+--     entry_cost      and that is the sum in the catalogue
 --     page_bound      the pages of a table are no more than the space rule counts
 use Rattle.std.proofs.Common.{◌≡◌, refl, sym, ap, subst, ◌∙◌, ℕ, suc, ◌+◌, ◌*◌, ◌<◌, ◌≤◌, Bool, true, false, cond, not, T, List, [], ◌∷◌, ◌++◌, map, filter, length, max, Some, None, arith, append_assoc, eqb-true, eq-eqb}
-use Rattle.std.specs.Prelude.{option_map, unwrap_or, ◌==◌, nat_le, sum_by}
+use Rattle.std.specs.Prelude.{option_map, unwrap_or, ◌==◌, ◌||◌, nat_le, sum_by}
 use Rattle.std.proofs.lemmas.Bool.{leb-true}
+use Rattle.std.proofs.lemmas.List.{append-nil}
+use Rattle.std.proofs.Math.Bool.{or-true}
 use Rattle.std.proofs.lemmas.List.Sums.{sum_by-cons, sum_by-append}
+use Rattle.std.specs.List.{list_any}
 use Rattle.std.specs.declared.cmp.Ordering.{Ordering}
 use Rattle.std.specs.declared.cmp.Ordering.TheVariants.{Equal}
-use Rattle.std.specs.Ordering.{is_eq, is_lt, ordering_then}
+use Rattle.std.specs.Ordering.{is_eq, is_lt, eq_by_cmp, ordering_then}
 use Rattle.std.specs.Cmp.{tied_itself, nat_cmp_total}
 use Rattle.std.specs.Cmp.Lexicographic.{nat_list_cmp_total}
-use Rattle.std.specs.FinMap.{get, find, is_sorted, entries, entries_sorted, get-entries, keys, contains_key}
+use Rattle.std.specs.FinMap.{get, find, is_sorted, entries, entries_sorted, get-entries, keys, contains_key, contains_key-keys}
 use Rattle.std.specs.FinMap.Entries.{below_all, where_key, is_sorted-where_key, find-where_key, same_entries}
 use Rattle.mdb_model.specs.Tables.{Place, Tables, place_cmp}
-use Rattle.mdb_model.specs.Space.{table_pages, table_cost, cost_at, ceil_div}
+use Rattle.mdb_model.specs.Space.{table_pages, table_cost, places, cost_at, ceil_div}
 use Rattle.mdb_bytes.specs.declared.logical_pages.CatalogueEntry.{CatalogueEntry}
 use Rattle.mdb_bytes.specs.TablePages.{Row, RowLeaf, row_cost, rows_cost}
 use Rattle.mdb_bytes.specs.Forms.{Neighbours}
@@ -98,6 +102,18 @@ of_table t place = place.0 == t
 tied_table : (t : ℕ) (q x : Place) → place_cmp q x ≡ Equal → of_table t x ≡ of_table t q
 tied_table t q x tie = ap (of_table t) (sym (place_exact q x tie))
 
+-- of places that each have a row, none is without one
+none_left : (rows : Tables) (ks : List Place) → ((place : Place) → list_any (eq_by_cmp place_cmp place) ks ≡ true → contains_key rows place ≡ true) → filter (λ place. not (contains_key rows place)) ks ≡ []
+none_left rows [] there = refl
+none_left rows (k ∷ ks) there =
+    let here : contains_key rows k ≡ true = there k (ap (λ o. is_eq o || list_any (eq_by_cmp place_cmp k) ks) (tied_itself place_total k)) in
+    ap (λ (b : Bool). cond (not b) (k ∷ filter (λ place. not (contains_key rows place)) ks) (filter (λ place. not (contains_key rows place)) ks)) here
+    ∙ none_left rows ks (λ place among. there place (ap (λ (b : Bool). eq_by_cmp place_cmp place k || b) among ∙ or-true (eq_by_cmp place_cmp place k)))
+
+-- the places that have a row in a map or in itself are those of the map
+one_of_both : (rows : Tables) → places rows rows ≡ keys rows
+one_of_both rows = ap (λ (ks : List Place). keys rows ++ ks) (none_left rows (keys rows) (λ place among. contains_key-keys rows place ∙ among)) ∙ append-nil (keys rows)
+
 module _ (rows : Tables) (t : ℕ) (run : List Row) (up : T (is_sorted by_bytes run)) (law : (k : List ℕ) → get rows (t, k) ≡ find by_bytes k run) where
   -- the entries of the table are its rows
   entries_are : where_key place_cmp (of_table t) (entries rows) ≡ map (placed t) run
@@ -135,27 +151,20 @@ module _ (rows : Tables) (t : ℕ) (run : List Row) (up : T (is_sorted by_bytes 
     by_test true more = ap (λ (ks : List Place). e.0 ∷ ks) more
     by_test false more = more
 
-  filter-append : (xs ys : List Place) → filter (of_table t) (xs ++ ys) ≡ filter (of_table t) xs ++ filter (of_table t) ys
-  filter-append [] ys = refl
-  filter-append (x ∷ xs) ys = by_test (of_table t x) (filter-append xs ys) where
-    by_test : (b : Bool) → filter (of_table t) (xs ++ ys) ≡ filter (of_table t) xs ++ filter (of_table t) ys
-        → cond b (x ∷ filter (of_table t) (xs ++ ys)) (filter (of_table t) (xs ++ ys)) ≡ cond b (x ∷ filter (of_table t) xs) (filter (of_table t) xs) ++ filter (of_table t) ys
-    by_test true more = ap (λ (ks : List Place). x ∷ ks) more
-    by_test false more = more
-
-  -- the rows of the run cost no more than the space rule counts
-  pub cost_of_table : rows_cost run ≤ table_cost rows rows t
+  -- the rows of the run cost what the space rule counts
+  pub cost_of_table : rows_cost run ≡ table_cost rows rows t
   cost_of_table =
-      let others : List Place = filter (λ place. not (contains_key rows place)) (keys rows) in
-      let here : sum_by cost (filter (of_table t) (keys rows)) ≡ rows_cost run =
-      ap (sum_by cost) (filter_keys (entries rows) ∙ ap (map (λ (e : Place × List ℕ). e.0)) entries_are) ∙ run_cost [] run refl in
-      let all : table_cost rows rows t ≡ sum_by cost (filter (of_table t) (keys rows)) + sum_by cost (filter (of_table t) others) =
-      ap (sum_by cost) (filter-append (keys rows) others) ∙ sum_by-append cost (filter (of_table t) (keys rows)) (filter (of_table t) others) in
-      omega arith
+      let own : filter (of_table t) (keys rows) ≡ map (λ e. e.0) (map (placed t) run) = filter_keys (entries rows) ∙ ap (map (λ (e : Place × List ℕ). e.0)) entries_are in
+      sym (ap (λ (ks : List Place). sum_by cost (filter (of_table t) ks)) (one_of_both rows) ∙ ap (sum_by cost) own ∙ run_cost [] run refl)
+
+-- the catalogue has what the space rule counts for the rows of a table
+pub entry_cost : (pages : PageBytes) (r : AreRuns pages) (table : ℕ) (entry : CatalogueEntry) → 1 ≤ table → table ≤ 500 → IsTableRun pages table entry (r.runs table)
+    → entry.cost ≡ table_cost (rows_in_pages pages) (rows_in_pages pages) table
+entry_cost pages r table entry low high run = run.cost ∙ cost_of_table (rows_in_pages pages) table (run_rows (r.runs table)) run.in_order (λ k. row_there pages r table k low high)
 
 pub page_bound : (pages : PageBytes) (r : AreRuns pages) (table : ℕ) (entry : CatalogueEntry) → 1 ≤ table → table ≤ 500 → IsTableRun pages table entry (r.runs table)
     → entry.pages ≤ table_pages (table_cost (rows_in_pages pages) (rows_in_pages pages) table)
 page_bound pages r table entry low high run =
-    let cost = cost_of_table (rows_in_pages pages) table (run_rows (r.runs table)) run.in_order (λ k. row_there pages r table k low high) in
+    let same : rows_cost (run_rows (r.runs table)) ≡ table_cost (rows_in_pages pages) (rows_in_pages pages) table = sym run.cost ∙ entry_cost pages r table entry low high run in
     subst (λ (n : ℕ). n ≤ table_pages (table_cost (rows_in_pages pages) (rows_in_pages pages) table)) (sym run.count)
-    (leaf_bound pages table (table_cost (rows_in_pages pages) (rows_in_pages pages) table) (r.runs table) run.linked run.filled cost)
+    (leaf_bound pages table (table_cost (rows_in_pages pages) (rows_in_pages pages) table) (r.runs table) run.linked run.filled (omega (arith, same)))

@@ -312,3 +312,23 @@ pub fn pages<P: Pages>(pages: &mut P, table: Table) -> Result<u32, PageFault>
     let entry = read_entry(pages, table)?;
     Ok(entry.pages)
 }
+
+/// What the rows of a table cost in the space rule, in bytes: 8, the key and the value for each
+/// row. It is the sum that the catalogue has.
+pub(crate) fn cost<P: Pages>(pages: &mut P, table: Table) -> Result<u64, PageFault>
+    requires { IsTrue (is_table table.0) }
+    ensures cost { P.is_known pages.old → AreRuns (P.pages pages.old)
+        → IfOk result
+        (λ cost. cost
+        ≡ table_cost (rows_in_pages (P.pages pages.old)) (rows_in_pages (P.pages pages.old))
+        table.0) }
+    ensures same { P.is_known pages.old
+        → OnOk result (P.is_known pages.new × (P.pages pages.new ≡ P.pages pages.old)) }
+    ensures spare { P.spare pages.old ≤ P.spare pages.new }
+    ensures cause { HasPageCause (P.is_known pages.old × AreRuns (P.pages pages.old))
+        (P.faults pages.old) (P.faults pages.new) result }
+    ensures follows { P.follows pages.old pages.new }
+{
+    let entry = read_entry(pages, table)?;
+    Ok(entry.cost)
+}

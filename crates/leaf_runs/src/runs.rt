@@ -1,5 +1,9 @@
 //! A keeper of rows whose tables are lists of leaves.
-ghost use Rattle.std.specs.Prelude.{◌≡◌};
+ghost use Rattle.std.specs.Prelude.{◌≡◌, ◌≤◌, IsTrue, IfOk, OnOk};
+ghost use Rattle.mdb_model.specs.Script.{is_table};
+ghost use Rattle.mdb_model.specs.Space.{table_cost};
+ghost use Rattle.mdb_bytes.specs.Held.{HasPageCause};
+ghost use Rattle.leaf_runs.specs.Runs.{rows_in_pages};
 ghost use Rattle.leaf_runs.specs.TableAreas.{IsTableArea};
 ghost use Rattle.leaf_runs.specs.Holdings.{holding_of};
 
@@ -24,6 +28,29 @@ impl<P: Pages> Runs<P> {
         ensures { result.pages ≡ pages }
     {
         Runs { pages }
+    }
+
+    /// What the rows of a table cost in the space rule, in bytes: 8, the key and the value for each
+    /// row, and 0 for a table without rows. It is for the kernel, which gives it to the space rule
+    /// when it opens a database. It reads the catalogue's page alone, however many rows there are,
+    /// and writes none. What a fault leaves of the rows is not said.
+    pub fn cost(&mut self, table: Table) -> Result<u64, PageFault>
+        requires { IsTrue (is_table table.0) }
+        ensures cost { P.is_known self.old.pages → IsTableArea (P.pages self.old.pages)
+            → IfOk result
+            (λ cost. cost
+            ≡ table_cost (rows_in_pages (P.pages self.old.pages))
+            (rows_in_pages (P.pages self.old.pages)) table.0) }
+        ensures same { P.is_known self.old.pages
+            → OnOk result (P.is_known self.new.pages
+            × (P.pages self.new.pages ≡ P.pages self.old.pages)) }
+        ensures spare { P.spare self.old.pages ≤ P.spare self.new.pages }
+        ensures cause { HasPageCause
+            (P.is_known self.old.pages × IsTableArea (P.pages self.old.pages))
+            (P.faults self.old.pages) (P.faults self.new.pages) result }
+        ensures follows { P.follows self.old.pages self.new.pages }
+    {
+        reading::cost(&mut self.pages, table)
     }
 }
 

@@ -3,4 +3,4 @@
 
 mod rows;
 
-pub use rows::{del_row, get_row, next_row_of, pages_of_table, put_row};
+pub use rows::{cost_of_table, del_row, get_row, next_row_of, pages_of_table, put_row};

@@ -145,3 +145,28 @@ pub fn pages_of_table<H: Host>(
 {
     Runs::new(store.view(host)).pages(table)
 }
+
+/// What the rows of a table cost in the space rule, in bytes: 8, the key and the value for each
+/// row. It reads the catalogue's page alone.
+pub fn cost_of_table<H: Host>(
+    store: &mut PageStore,
+    host: &mut H,
+    table: Table,
+) -> Result<u64, PageFault>
+    requires { IsTrue (is_table table.0) }
+    ensures cost { HasRows H.tells store.old (H.disk host.old).seen
+        → IfOk result (λ cost. cost
+        ≡ table_cost (stored_rows store.old (H.disk host.old).seen)
+        (stored_rows store.old (H.disk host.old).seen) table.0) }
+    ensures same { HasRows H.tells store.old (H.disk host.old).seen
+        → OnOk result (HasRows H.tells store.new (H.disk host.new).seen
+        × (stored_rows store.new (H.disk host.new).seen
+        ≡ stored_rows store.old (H.disk host.old).seen)) }
+    ensures spare { spare_of store.old ≤ spare_of store.new }
+    ensures cause { HasPageCause (HasRows H.tells store.old (H.disk host.old).seen)
+        (H.faults host.old) (H.faults host.new) result }
+    ensures keeps { KeepsStore H.tells store.old store.new (H.disk host.old) (H.disk host.new) }
+    ensures say_faults { H.say_faults host.new ≡ H.say_faults host.old }
+{
+    Runs::new(store.view(host)).cost(table)
+}

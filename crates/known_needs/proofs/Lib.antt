@@ -1,0 +1,13 @@
+pub mod Found
+pub mod SessionSums
+pub mod LastChanges
+pub mod FirstKnown
+pub mod UndoKnown
+pub mod PlaceSums
+pub mod CostSums
+pub mod Growths
+pub mod PagesKnown
+pub mod NeedKnown
+pub mod NotedKnown
+pub mod EndedKnown
+pub mod Settled

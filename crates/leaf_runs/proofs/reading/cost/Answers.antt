@@ -1,0 +1,9 @@
+use Rattle.leaf_runs.proofs.Gets.{table_limits, table_run}
+use Rattle.leaf_runs.proofs.PageBound.{entry_cost}
+use Rattle.leaf_runs.proofs.reading.cost.Goals as goal
+
+pub returns-clause-cost : goal.returns-clause-cost
+returns-clause-cost g c = λ known r.
+    let m = g.P.Pages.pages c.args.pages.now in
+    let t = table_limits c.args.table.0 c.requires in
+    entry_cost m r c.args.table.0 c.in_ok-entry.entry t.0 t.1 (table_run m c.args.table.0 c.in_ok-entry.entry r t.0 t.1 (c.in_ok-entry.ensures.entry known))
