@@ -1,23 +1,22 @@
 -- What changes make the cost of a table grow.
 --     grown      by one change
 --     grown_by      by changes of places that do not repeat
-use Rattle.std.proofs.Common.{◌≡◌, ◌≢◌, inl, inr, refl, sym, ap, ◌∙◌, subst, ℕ, ◌+◌, ◌-◌, max, Bool, true, false, cond, not, ◌==◌, List, [], ◌∷◌, length, map, Option, Some, None, arith}
-use Rattle.std.specs.Prelude.{filter, sum_by, option_map, unwrap_or, is_some}
+use Rattle.std.proofs.Common.{◌≡◌, ◌≢◌, inl, inr, refl, sym, ap, ◌∙◌, subst, ℕ, ◌+◌, ◌-◌, max, Bool, true, false, cond, ◌==◌, List, [], ◌∷◌, length, map, Option, Some, None, arith}
+use Rattle.std.specs.Prelude.{sum_by, option_map, unwrap_or}
 use Rattle.std.specs.FinMap.{get, get-insert, get-remove}
-use Rattle.std.proofs.lemmas.Bool.{cases_Bool, false≢true}
 use Rattle.std.proofs.lemmas.List.Sums.{sum_by-cons}
 use Rattle.mdb_model.specs.declared.change.Change.{Change}
 use Rattle.mdb_model.specs.declared.change.Change.TheVariants.{Put, Del}
-use Rattle.mdb_model.specs.Sessions.{same_place}
-use Rattle.mdb_model.specs.Space.{cost_at, places, table_cost}
+use Rattle.mdb_model.specs.Space.{cost_at, table_cost}
 use Rattle.mdb_model.specs.Tables.{Place, Tables, place_of, with_change, with_changes}
 use Rattle.mdb_model.proofs.Computing.{places_total}
-use Rattle.mdb_model.proofs.SerialPlaces.{same_place-equal, same_place-itself, with_change-apart}
+use Rattle.mdb_model.proofs.SerialPlaces.{same_place-itself, with_change-apart}
 use Rattle.space_rule.specs.KnownCosts.{cost_of_lengths, cost_now, cost_before, growth_on}
 use Rattle.standing.specs.RedoRoom.{AllApart}
 use Rattle.known_needs.specs.KnownNeeds.{opened_one}
-use Rattle.known_needs.proofs.PlaceSums.{In, all_in, all_among, in_filter, filter_in, apart_filter, same_terms}
-use Rattle.known_needs.proofs.CostSums.{HasRow, cost_in, cost_over, places_apart, places_have}
+use Rattle.known_needs.proofs.PlaceSums.{In, all_in, same_terms}
+use Rattle.known_needs.proofs.CostSums.{cost_in, cost_over}
+use Rattle.known_needs.proofs.OneChange.{rest, not_here, all_apart, has_before, has_after}
 
 module _ (t : Tables) (table : ℕ) where
   -- the cost where this row stands
@@ -68,49 +67,17 @@ module _ (t : Tables) (table : ℕ) where
   -- the cost of a table after a change of a row that stands as before
   pub grown : (c : Change) (rows : Tables) → get rows (place_of c) ≡ get t (place_of c) → table_cost t (with_change c rows) table ≡ table_cost t rows table + growth_on table (opened_one t c)
   grown c rows same =
+      let next = with_change c rows in
+      let others = rest t rows c in
       omega (
         arith,
-        cost_over t next table all all_apart has_next,
-        cost_over t rows table all all_apart has_rows,
-        sum_by-cons (cost_in t next table) here rest,
-        sum_by-cons (cost_in t rows table) here rest,
-        same_terms (cost_in t next table) (cost_in t rows table) rest (λ p there. same_elsewhere c rows p (not_here p there)),
+        cost_over t next table (place_of c ∷ others) (all_apart t rows c) (λ p has. elim has [ inl one ↦ has_before t rows c p (inl one) | inr two ↦ has_after t rows c p two ]),
+        cost_over t rows table (place_of c ∷ others) (all_apart t rows c) (has_before t rows c),
+        sum_by-cons (cost_in t next table) (place_of c) others,
+        sum_by-cons (cost_in t rows table) (place_of c) others,
+        same_terms (cost_in t next table) (cost_in t rows table) others (λ p there. same_elsewhere c rows p (not_here t rows c p there)),
         grown_here c rows same,
       )
-    where
-      here : Place
-      here = place_of c
-
-      next : Tables
-      next = with_change c rows
-
-      other : Place → Bool
-      other p = not (same_place p here)
-
-      rest : List Place
-      rest = filter other (places t rows)
-
-      all : List Place
-      all = here ∷ rest
-
-      not_here : (p : Place) → In p rest → p ≢ here
-      not_here p there is = false≢true (sym (ap not (ap (λ q. same_place p q) (sym is) ∙ same_place-itself p)) ∙ (filter_in other p (places t rows) there).1)
-
-      all_apart : AllApart all
-      all_apart = (all_among (λ q. here ≢ q) rest (λ q there is. not_here q there (sym is)), apart_filter other (places t rows) (places_apart t rows))
-
-      has_rows : (p : Place) → HasRow t rows p → In p all
-      has_rows p has = elim (cases_Bool (same_place p here)) [
-        | inl is ↦ inl (same_place-equal p here is)
-        | inr apart ↦ inr (in_filter other p (places t rows) (places_have t rows p has) (ap not apart))
-      ]
-
-      has_next : (p : Place) → HasRow t next p → In p all
-      has_next p (inl one) = has_rows p (inl one)
-      has_next p (inr two) = elim (cases_Bool (same_place p here)) [
-        | inl is ↦ inl (same_place-equal p here is)
-        | inr apart ↦ has_rows p (inr (sym (ap is_some (with_change-apart c rows p (λ is. false≢true (sym apart ∙ (ap (λ q. same_place p q) (sym is) ∙ same_place-itself p))))) ∙ two))
-      ]
 
   -- and after changes of places that do not repeat
   pub grown_by : (cs : List Change) (rows : Tables) → AllApart (map place_of cs) → ((p : Place) → In p (map place_of cs) → get rows p ≡ get t p)

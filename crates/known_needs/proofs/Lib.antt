@@ -5,6 +5,7 @@ pub mod FirstKnown
 pub mod UndoKnown
 pub mod PlaceSums
 pub mod CostSums
+pub mod OneChange
 pub mod Growths
 pub mod PagesKnown
 pub mod NeedKnown

@@ -1,24 +1,24 @@
 -- The cost of a table after changes are committed.
 --     settled_cost_is      the committed cost with these changes is that of the rows after them
 --     opened_same      changes of rows that are the same are opened as before
-use Rattle.std.proofs.Common.{◌≡◌, ◌≢◌, inl, inr, refl, sym, ap, ◌∙◌, subst, ℕ, ◌+◌, ◌-◌, ◌<◌, ◌≤◌, max, Bool, true, false, cond, not, ◌==◌, List, [], ◌∷◌, length, map, set, arith}
-use Rattle.std.specs.Prelude.{filter, sum_by, option_map, is_some, slice_index}
+use Rattle.std.proofs.Common.{◌≡◌, ◌≢◌, inl, inr, refl, sym, ap, ◌∙◌, subst, ℕ, ◌+◌, ◌-◌, ◌<◌, ◌≤◌, max, Bool, true, false, cond, ◌==◌, List, [], ◌∷◌, length, map, set, arith}
+use Rattle.std.specs.Prelude.{sum_by, option_map, slice_index}
 use Rattle.std.specs.FinMap.{get}
-use Rattle.std.proofs.lemmas.Bool.{cases_Bool, cases_eq, false≢true, eq-eqb, ne_eqb}
+use Rattle.std.proofs.lemmas.Bool.{cases_eq, eq-eqb, ne_eqb}
 use Rattle.std.proofs.lemmas.List.{get_or-set_same, get_or-set_other, length-set}
 use Rattle.std.proofs.lemmas.List.Sums.{sum_by-cons}
 use Rattle.mdb_model.specs.declared.change.Change.{Change}
 use Rattle.mdb_model.specs.declared.change.Change.TheVariants.{Put, Del}
-use Rattle.mdb_model.specs.Sessions.{same_place}
-use Rattle.mdb_model.specs.Space.{cost_at, places, table_cost}
+use Rattle.mdb_model.specs.Space.{cost_at, table_cost}
 use Rattle.mdb_model.specs.Tables.{Place, Tables, place_of, with_change, with_changes}
-use Rattle.mdb_model.proofs.SerialPlaces.{same_place-equal, same_place-itself, with_change-apart}
+use Rattle.mdb_model.proofs.SerialPlaces.{with_change-apart}
 use Rattle.space_rule.specs.declared.open_change.OpenChange.{OpenChange}
 use Rattle.space_rule.specs.KnownCosts.{cost_now, cost_before, opened_change, with_settled}
 use Rattle.standing.specs.RedoRoom.{AllApart}
 use Rattle.known_needs.specs.KnownNeeds.{opened_one}
-use Rattle.known_needs.proofs.PlaceSums.{In, all_in, all_among, in_filter, filter_in, apart_filter, same_terms}
-use Rattle.known_needs.proofs.CostSums.{HasRow, cost_in, cost_over, places_apart, places_have}
+use Rattle.known_needs.proofs.PlaceSums.{In, all_in, same_terms}
+use Rattle.known_needs.proofs.CostSums.{cost_in, cost_over}
+use Rattle.known_needs.proofs.OneChange.{rest, not_here, all_apart, has_before, has_after}
 use Rattle.known_needs.proofs.Growths.{cost_of_row, before_is, now_is}
 
 -- changes of rows that are the same are opened as before
@@ -67,50 +67,17 @@ module _ (t : Tables) (table : ℕ) where
   -- the cost after a change of a row that stands as before
   settled_once : (c : Change) (rows : Tables) → get rows (place_of c) ≡ get t (place_of c) → cost_of (with_change c rows) + before_on c ≡ cost_of rows + now_on c
   settled_once c rows same =
+      let next = with_change c rows in
+      let others = rest rows rows c in
       omega (
         arith,
-        cost_over next next table all all_apart has_next,
-        cost_over rows rows table all all_apart has_rows,
-        sum_by-cons (cost_in next next table) here rest,
-        sum_by-cons (cost_in rows rows table) here rest,
-        same_terms (cost_in next next table) (cost_in rows rows table) rest (λ p there. same_elsewhere c rows p (not_here p there)),
+        cost_over next next table (place_of c ∷ others) (all_apart rows rows c) (λ p has. elim has [ inl one ↦ has_after rows rows c p one | inr two ↦ has_after rows rows c p two ]),
+        cost_over rows rows table (place_of c ∷ others) (all_apart rows rows c) (has_before rows rows c),
+        sum_by-cons (cost_in next next table) (place_of c) others,
+        sum_by-cons (cost_in rows rows table) (place_of c) others,
+        same_terms (cost_in next next table) (cost_in rows rows table) others (λ p there. same_elsewhere c rows p (not_here rows rows c p there)),
         settled_here c rows same,
       )
-    where
-      here : Place
-      here = place_of c
-
-      next : Tables
-      next = with_change c rows
-
-      other : Place → Bool
-      other p = not (same_place p here)
-
-      rest : List Place
-      rest = filter other (places rows rows)
-
-      all : List Place
-      all = here ∷ rest
-
-      not_here : (p : Place) → In p rest → p ≢ here
-      not_here p there is = false≢true (sym (ap not (ap (λ q. same_place p q) (sym is) ∙ same_place-itself p)) ∙ (filter_in other p (places rows rows) there).1)
-
-      all_apart : AllApart all
-      all_apart = (all_among (λ q. here ≢ q) rest (λ q there is. not_here q there (sym is)), apart_filter other (places rows rows) (places_apart rows rows))
-
-      has_rows : (p : Place) → HasRow rows rows p → In p all
-      has_rows p has = elim (cases_Bool (same_place p here)) [
-        | inl is ↦ inl (same_place-equal p here is)
-        | inr apart ↦ inr (in_filter other p (places rows rows) (places_have rows rows p has) (ap not apart))
-      ]
-
-      has_next : (p : Place) → HasRow next next p → In p all
-      has_next p has = elim (cases_Bool (same_place p here)) [
-        | inl is ↦ inl (same_place-equal p here is)
-        | inr apart ↦
-            let row = ap is_some (with_change-apart c rows p (λ is. false≢true (sym apart ∙ (ap (λ q. same_place p q) (sym is) ∙ same_place-itself p)))) in
-            has_rows p (elim has [ inl one ↦ inl (sym row ∙ one) | inr two ↦ inr (sym row ∙ two) ])
-      ]
 
   -- and after changes of places that do not repeat
   settled_all : (cs : List Change) (rows : Tables) → AllApart (map place_of cs) → ((p : Place) → In p (map place_of cs) → get rows p ≡ get t p)
