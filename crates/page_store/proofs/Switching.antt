@@ -17,6 +17,8 @@ use Rattle.volume_disk.specs.Blocks.{IsArea, Writes, block_at}
 use Rattle.volume_disk.proofs.Writes.{area_same}
 use Rattle.gate_slots.specs.declared.slots.Slots.{Slots}
 use Rattle.gate_slots.specs.declared.place.SlotPlace.{SlotPlace}
+use Rattle.gate_slots.specs.Steps.{SlotsTorn}
+use Rattle.mdb_model.specs.declared.fault.Device.TheVariants.{Data, Log}
 use Rattle.gate_slots.specs.declared.body.SlotBody.TheVariants.{Restart}
 use Rattle.gate_slots.specs.Slots.{IsReady}
 use Rattle.gate_slots.specs.Steps.{Switches}
@@ -217,3 +219,7 @@ module _ (T : Type 0) (slots slots2 : Slots) (was : RestartRecord) (s w r : Stor
     big = subst (λ (x : Store). 2 ≤ get_or x.sizes 0 0) (sym is) can.big;
     standing = standing;
   }
+
+-- a switch of the slots leaves the log volume
+pub beside_log : (place : SlotPlace) (a b : Image) → place ≡ restart_place → SlotsTorn place a b → b Log ≡ a Log
+beside_log place a b is torn = torn.others Log (λ log. (let e : Log ≡ Data 1 = log ∙ ap (λ (p : SlotPlace). p.device) is in absurd cc))

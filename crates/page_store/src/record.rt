@@ -1,6 +1,7 @@
 //! The restart record in force: whoever has it makes whole savepoints.
 ghost use Rattle.std.specs.Prelude.{◌≡◌, ℕ, ◌+◌, ◌<◌, ◌^◌, IfErr, OnOk};
 ghost use Rattle.mdb_model.specs.Causes.{HasCause};
+ghost use Rattle.mdb_model.specs.declared.fault.Device.TheVariants.{Log};
 ghost use Rattle.converter.specs.Maps.{block_of};
 ghost use Rattle.page_store.specs.Store.{spare_of, page_block};
 ghost use Rattle.page_store.specs.Stamps.{AreStamped};
@@ -60,6 +61,7 @@ impl RecordInForce {
             ≡ present_page store.old (H.disk host.old).seen page) }
         ensures spare { OnOk result (spare_of store.new ≡ spare_after store.old) }
         ensures stamped { OnOk result (AreStamped store.old → AreStamped store.new) }
+        ensures elsewhere { H.tells → (H.disk host.new).seen Log ≡ (H.disk host.old).seen Log }
         //
         ensures cause { HasCause (H.faults host.old) (H.faults host.new) result }
         ensures fault { IfErr result (λ fault. fault ≡ PageFault.Failed) }

@@ -14,7 +14,8 @@ ghost use Rattle.std.specs.Prelude.{◌≡◌, ℕ, ◌+◌, ◌-◌, ◌≤◌,
 ghost use Rattle.mdb_model.specs.Causes.{Rose, HasCause};
 ghost use Rattle.mdb_model.specs.declared.change.Change.{Change};
 ghost use Rattle.mdb_model.specs.declared.name.Name.{Name};
-ghost use Rattle.mdb_host.specs.Disk.{Disk, Goes, Arrives};
+ghost use Rattle.mdb_host.specs.Disk.{Disk, Goes, Arrives, AgreeBut};
+ghost use Rattle.mdb_model.specs.declared.fault.Device.TheVariants.{Log};
 ghost use Rattle.mdb_bytes.specs.Fields.{Spells};
 ghost use Rattle.mdb_bytes.specs.Groups.{group_format};
 ghost use Rattle.mdb_bytes.specs.Rings.{HasRing, IsRingSize};
@@ -96,6 +97,7 @@ impl Ring {
             (Appended self.old.size self.old.name self.old.end_position self.old.last_commit
             changes)) }
         ensures ring { H.tells → HasRing self.old.size (H.disk host.new).seen }
+        ensures elsewhere { H.tells → AgreeBut Log (H.disk host.old).seen (H.disk host.new).seen }
         // The faults.
         ensures later { H.faults host.old ≤ H.faults host.new }
         ensures cause { result ≡ Err RingFault.Failed
@@ -178,6 +180,7 @@ fn append_closed<H: Host>(host: &mut H, size: u64, end: u64, closed: &[u8]) -> R
         → Spells group_format (record { name = name; number = last + 1; changes = changes }) group
         → Arrives (H.disk host.old) (H.disk host.new) (Appended size name end last changes)) }
     ensures ring { H.tells → HasRing size (H.disk host.new).seen }
+    ensures elsewhere { H.tells → AgreeBut Log (H.disk host.old).seen (H.disk host.new).seen }
     ensures cause { HasCause (H.faults host.old) (H.faults host.new) result }
     ensures say_faults { H.say_faults host.new ≡ H.say_faults host.old }
 {

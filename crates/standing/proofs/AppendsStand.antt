@@ -2,7 +2,6 @@
 --     appends_stand, appended_stands      the law at each moment, and after the call
 --     off_committed      the world with a commit more is the one that the line COMMIT gives
 use Rattle.std.proofs.Common.{◌≡◌, ◌⊎◌, inl, inr, refl, sym, ap, ◌∙◌, subst, ℕ, ◌+◌, ◌-◌, ◌≤◌, min, List, Some, arith, length-drop}
-use Rattle.std.specs.Prelude.{option_map, unwrap_or}
 use Rattle.std.proofs.lemmas.Option.{same_Some}
 use Rattle.mdb_model.specs.declared.change.Commit.{Commit}
 use Rattle.mdb_model.specs.History.{last, commits_above}
@@ -41,7 +40,7 @@ module _ (old new : Image) (w : World) (c : Commit) (info : LogInfo) (r : Restar
   abbrev point : LogPoint
   point = saved_in_force (Some r) (Some info) (open_medium old)
 
-  area : AreaIsLive (look old) w
+  pub area : AreaIsLive (look old) w
   area = subst (λ a. AreaStands a (look old) s.info w) live s.area
 
   same_record : area.rec ≡ r
@@ -83,6 +82,16 @@ module _ (old new : Image) (w : World) (c : Commit) (info : LogInfo) (r : Restar
 
   more_stands : LookStands (appended (look old) above area.rows.log c) (with_commit w c)
   more_stands = append_stands (look old) w c r kept area.rows.log s live record_is there area.rows.in_log from upto room
+
+  -- what an image shows at each moment, and after the call
+  pub appends_look : Appends size r.name end number c.changes old new → (look new ≡ look old) ⊎ (look new ≡ appended (look old) above area.rows.log c)
+  appends_look step = look_appended old new info r end number c above area.rows.log step info_is record_is saved_due redo_due
+
+  pub appended_look : Appended size r.name end number c.changes old new → look new ≡ appended (look old) above area.rows.log c
+  appended_look step = look_has_it old new info r end number c above area.rows.log step info_is record_is saved_due redo_due
+
+  pub log_shown_is : (look old).redo_log ≡ Some area.rows.log
+  log_shown_is = area.rows.in_log
 
   -- at each moment
   pub appends_stand : Appends size r.name end number c.changes old new → StandsWhole new w ⊎ StandsWhole new (with_commit w c)

@@ -1,6 +1,7 @@
 -- A savepoint keeps the room of a restart, also inside a commit.
 --     room_later      the commits of a history after a later number have room
 --     restart_room_kept, room_kept      the law
+--     room_by_rows      the same where the rows of the new map have room to redo what is left
 use Rattle.std.proofs.Common.{◌≡◌, ◌⊎◌, inl, inr, refl, sym, ap, ◌∙◌, subst, ℕ, zero, suc, ◌+◌, ◌-◌, ◌*◌, ◌<◌, ◌≤◌, true, List, [], ◌∷◌, ◌++◌, length, take, drop, Some, arith, length-append}
 use Rattle.std.specs.Prelude.{IsTrue, IfSome}
 use Rattle.std.specs.List.{AllByRecursion}
@@ -106,3 +107,31 @@ module _ (l : Look) (w : World) (r next : RestartRecord) (old new : KeptMap) (do
   pub room_kept : RoomStands l r old w → AllByRecursion (λ a. IsTrue (map_has_room reading a.pages 0 w.blocks)) (kept_maps (switched l next new rest))
       → 2 + blocks_in_use (switched l next new rest) + (len w.snapshots + 2) * converter_pages w.blocks ≤ w.blocks → RoomStands (switched l next new rest) next new w
   room_kept room maps blocks = record { maps = maps; restart = λ needs. restart_after room rest refl needs; blocks = blocks }
+
+-- By the rows of the new map alone
+module _ (l : Look) (w : World) (r next : RestartRecord) (old new : KeptMap) (done rest : List Commit) (now : Tables)
+    (in_log : l.redo_log ≡ Some (done ++ rest)) (mark : next.commit ≡ r.commit + length done) (rows : MapHasRows new now)
+    (to_redo : HaveRoomToRedo now rest (kept_for_snapshots w) w.blocks) (fits : has_room now now 0 (kept_for_snapshots w) w.blocks ≡ true) where
+  map_has : (kept blocks : ℕ) → map_has_room reading new.pages kept blocks ≡ has_room now now 0 kept blocks
+  map_has kept blocks = λ i. both_have_room (rows.standing i) (rows.committed_rows i) (rows.no_undo_pages i) kept blocks
+
+  restart_has : RestartHasRoom l r old w → RestartHasRoom (switched l next new rest) next new w
+  restart_has room = record {
+    map = map_has (kept_for_snapshots w) w.blocks ∙ fits;
+    history = room_later w.history r.commit next.commit (kept_for_snapshots w) w.blocks (omega (arith, mark)) room.history;
+    log = λ start2 log2 in_map2 in_log2.
+        let same_start : now ≡ start2 = same_Some now start2 (sym rows.committed_rows ∙ in_map2) in
+        let same_log : rest ≡ log2 = same_Some rest log2 in_log2 in
+        subst (λ (x : Tables × List Commit). HaveRoomToRedo x.0 x.1 (kept_for_snapshots w) w.blocks) (λ i. (same_start i, same_log i)) to_redo;
+  }
+
+  restart_later : RoomStands l r old w → (rest2 : List Commit) → rest ≡ rest2 → (0 < length (all_images new.pages)) ⊎ (0 < length rest2) → RestartHasRoom (switched l next new rest) next new w
+  restart_later room rest2 is (inl images) = absurd (omega (arith, images, ap length rows.no_images))
+  restart_later room [] is (inr some) = absurd (omega (arith, some))
+  restart_later room (c ∷ cs) is (inr some) =
+      let before : 0 < length (done ++ rest) = omega (arith, length-append done rest, ap length is) in
+      restart_has (room.restart (inr (subst (λ o. IfSome o (λ log. 0 < length log)) (sym in_log) before)))
+
+  pub room_by_rows : RoomStands l r old w → AllByRecursion (λ a. IsTrue (map_has_room reading a.pages 0 w.blocks)) (kept_maps (switched l next new rest))
+      → 2 + blocks_in_use (switched l next new rest) + (len w.snapshots + 2) * converter_pages w.blocks ≤ w.blocks → RoomStands (switched l next new rest) next new w
+  room_by_rows room maps blocks = record { maps = maps; restart = λ needs. restart_later room rest refl needs; blocks = blocks }

@@ -1,3 +1,4 @@
+use Rattle.std.proofs.Common.{◌∙◌}
 use Rattle.mdb_host.proofs.Moments.{on_ok}
 use Rattle.redo_ring.proofs.Log.{first_half, both_halves, arrives, behind_goes, behind_kept}
 use Rattle.redo_ring.proofs.ring.append_closed.Goals as goal
@@ -18,3 +19,7 @@ returns-clause-there g c = on_ok c.write_ring_kept-2.result _ _ (λ kept told na
     arrives c.args.size name c.args.end last changes group spelled (g.H.Host.disk c.args.host.now) (g.H.Host.disk c.write_ring_kept.new.host)
     (behind_goes c.args.size c.args.end group c.args.closed.now is (g.H.Host.disk c.args.host.now) (g.H.Host.disk c.write_ring_kept.new.host) (c.write_ring_kept.ensures.writes.goes told)) (g.H.Host.disk c.write_ring_kept-2.new.host)
     (behind_kept c.args.size c.args.end group c.args.closed.now is (g.H.Host.disk c.write_ring_kept.new.host) (c.in_ok-write_ring_kept.ensures.kept told)) (c.write_ring_kept-2.ensures.writes.goes told) (kept told)) c.write_ring_kept-2.ensures.kept
+
+pub returns-clause-elsewhere : goal.returns-clause-elsewhere
+returns-clause-elsewhere g c told device other =
+    (c.write_ring_kept-2.ensures.writes.seen told).others device other ∙ (c.write_ring_kept.ensures.writes.seen told).others device other

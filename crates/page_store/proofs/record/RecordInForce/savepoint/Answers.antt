@@ -1,5 +1,7 @@
 use Rattle.std.proofs.Common.{◌≡◌, ◌∙◌, ℕ, ◌+◌, ◌≤◌, List, get_or, sym, ap, subst, arith}
 use Rattle.mdb_model.specs.Images.{Image}
+use Rattle.mdb_model.specs.declared.fault.Device.TheVariants.{Log}
+use Rattle.page_store.proofs.Switching.{beside_log}
 use Rattle.converter.specs.Maps.{block_of}
 use Rattle.page_store.specs.Store.{Store, IsKnown, FramesMatch}
 use Rattle.volume_disk.specs.Blocks.{IsArea}
@@ -98,3 +100,16 @@ returns-in-Ok-clause-spare g c = spare_is g.H.Host.tells c.args.self.now.slots c
 
 pub returns-in-Ok-clause-stamped : goal.returns-in-Ok-clause-stamped
 returns-in-Ok-clause-stamped g c = stamped_on g.H.Host.tells c.args.self.now.slots c.switch.new.slots c.args.self.now.record c.args.store.now c.keep_map.new.store c.release.new.self (g.H.Host.disk c.args.host.now) (g.H.Host.disk c.switch.new.host) c.requires.ready c.in_ok-state.ensures.written (after_is c.args.store.now c.keep_map.new.store c.switch.new.self c.release.new.self c.in_ok-state.ensures.written c.switch.ensures.store c.release.ensures.settled)
+
+pub returns-in_err-state-clause-elsewhere : goal.returns-in_err-state-clause-elsewhere
+returns-in_err-state-clause-elsewhere g c told = (c.keep_map.ensures.seen told).others Log (λ i lt is. absurd cc)
+
+pub returns-in-Ok-clause-elsewhere : goal.returns-in-Ok-clause-elsewhere
+returns-in-Ok-clause-elsewhere g c told =
+    beside_log c.args.self.now.slots.place (g.H.Host.disk c.keep_map.new.host).seen (g.H.Host.disk c.switch.new.host).seen c.requires.ready.place (c.switch.ensures.switches.seen told)
+    ∙ (c.keep_map.ensures.seen told).others Log (λ i lt is. absurd cc)
+
+pub returns-in-Err-clause-elsewhere : goal.returns-in-Err-clause-elsewhere
+returns-in-Err-clause-elsewhere g c told =
+    beside_log c.args.self.now.slots.place (g.H.Host.disk c.keep_map.new.host).seen (g.H.Host.disk c.switch.new.host).seen c.requires.ready.place (c.switch.ensures.switches.seen told)
+    ∙ (c.keep_map.ensures.seen told).others Log (λ i lt is. absurd cc)
