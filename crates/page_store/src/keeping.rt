@@ -54,6 +54,7 @@ pub(crate) fn keep_map<H: Host>(
     ensures seen { H.tells
         → Writes store.old.sizes (IsBeside store.old) (H.disk host.old).seen (H.disk host.new).seen }
     ensures area { IsSameArea store.old store.new }
+    ensures number { store.new.next ≡ store.old.next + 1 }
     ensures written { OnOk result (IsWritten store.old store.new) }
     ensures known { OnOk result (IsKnown H.tells store.old (H.disk host.old).seen
         → IsKnown H.tells store.new (H.disk host.new).seen) }

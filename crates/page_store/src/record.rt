@@ -1,11 +1,12 @@
 //! The restart record in force: whoever has it makes whole savepoints.
-ghost use Rattle.std.specs.Prelude.{◌≡◌, ℕ, ◌+◌, ◌<◌, ◌^◌, IfErr, OnOk};
+ghost use Rattle.std.specs.Prelude.{◌≡◌, ℕ, ◌+◌, ◌≤◌, ◌<◌, ◌^◌, IfErr, OnOk};
 ghost use Rattle.mdb_model.specs.Causes.{HasCause};
 ghost use Rattle.mdb_model.specs.declared.fault.Device.TheVariants.{Log};
 ghost use Rattle.converter.specs.Maps.{block_of};
 ghost use Rattle.page_store.specs.Store.{spare_of, page_block};
 ghost use Rattle.page_store.specs.Stamps.{AreStamped};
 ghost use Rattle.page_store.specs.LogicalPages.{store_pages};
+ghost use Rattle.page_store.specs.SavingStays.{numbers_left};
 ghost use Rattle.page_store.specs.WholeSavepoint.{CanSave, Saves, IsSameArea, IsSaved, next_record, saved_page, present_page, spare_after};
 
 use crate::keeping::keep_map;
@@ -62,6 +63,8 @@ impl RecordInForce {
         ensures spare { OnOk result (spare_of store.new ≡ spare_after store.old) }
         ensures stamped { OnOk result (AreStamped store.old → AreStamped store.new) }
         ensures elsewhere { H.tells → (H.disk host.new).seen Log ≡ (H.disk host.old).seen Log }
+        ensures numbers { numbers_left self.old.record store.old
+            ≤ numbers_left self.new.record store.new + 1 }
         //
         ensures cause { HasCause (H.faults host.old) (H.faults host.new) result }
         ensures fault { IfErr result (λ fault. fault ≡ PageFault.Failed) }

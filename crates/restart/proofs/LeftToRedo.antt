@@ -4,8 +4,9 @@
 --     first_last      before the first
 --     reached, behind_all      none is left where the last one that is asked for is set
 --     SetSoFar, set_first, set_on, part_on      the commits that are set
+--     fits_step      what is left keeps its room
 --     ready_on      the rows with what is left stay those that are aimed at
-use Rattle.std.proofs.Common.{◌≡◌, refl, sym, ap, ◌∙◌, ℕ, suc, ◌+◌, ◌-◌, ◌≤◌, List, [], ◌∷◌, ◌++◌, append_assoc, length, take, drop, Option, Some, None, arith}
+use Rattle.std.proofs.Common.{◌≡◌, refl, sym, ap, subst, ◌∙◌, ℕ, suc, ◌+◌, ◌-◌, ◌≤◌, List, [], ◌∷◌, ◌++◌, append_assoc, length, take, drop, Option, Some, None, arith}
 use Rattle.std.specs.Prelude.{IsSomeAnd}
 use Rattle.std.proofs.lemmas.List.{take-append-drop}
 use Rattle.mdb_model.specs.declared.change.Commit.{Commit}
@@ -116,3 +117,12 @@ ready_on aim aim2 undone undone2 last last2 old new until number ready s same_ai
   aimed = ap (λ (l : List Commit). with_commits l new.rows) left ∙ ap (with_commits new.log.commits) s.6
       ∙ ap (λ (l : List Commit). with_commits l old.rows) (sym (ready.left ∙ s.1)) ∙ ready.aimed ∙ sym same_aim;
 }
+
+-- what is left keeps its room
+pub fits_step : (fits : List Commit → Tables → Type 0) {undone undone2 : List Commit} (old new : Holding) (until : Option ℕ) (number : ℕ)
+    → ((commit : Commit) (commits : List Commit) (rows : Tables) → fits (commit ∷ commits) rows → fits commits (with_changes commit.changes rows))
+    → IsNextRedone (Some number) until old new → undone ≡ old.log.commits → undone2 ≡ new.log.commits → fits undone old.rows → fits undone2 new.rows
+fits_step fits {undone2 = undone2} old new until number rest s left left2 room =
+    let first = subst (λ (l : List Commit). fits l old.rows) (left ∙ s.1) room in
+    let set = rest s.0 new.log.commits old.rows first in
+    subst (λ (t : Tables). fits undone2 t) (sym s.6) (subst (λ (l : List Commit). fits l (with_changes s.0.changes old.rows)) (sym left2) set)

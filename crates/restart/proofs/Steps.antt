@@ -1,5 +1,6 @@
 -- One commit of the log, set on the rows.
 --     on_the_way      within a group the rows stand so
+--     fits_same      what has room keeps it
 --     part_made      its first changes are set
 --     rose_on, cause_passed      the cause of a fault, from an earlier moment on
 --     on_passed, if_passed      a fault that is passed on owes nothing of an answer
@@ -20,15 +21,22 @@ use Rattle.restart.specs.Redone.{IsFirstOf, IsOnTheWay, IsFirstUndone, IsReadyTo
 use Rattle.restart.proofs.Making.{Making}
 
 -- within a group the rows are those before it with its first changes
-pub on_the_way : (aim aim2 : Tables) (undone undone2 : List Commit) (before now : Holding) (group left : List ℕ) (next : IsFirstUndone aim undone before.rows group)
-    → Making left before now next.commit.changes → aim2 ≡ aim → undone2 ≡ undone → IsOnTheWay aim2 undone2 now.rows
-on_the_way aim aim2 undone undone2 before now group left next m same_aim same_undone = record {
+pub on_the_way : (fits : List Commit → Tables → Type 0) (aim aim2 : Tables) (undone undone2 : List Commit) (before now : Holding) (group left : List ℕ) (next : IsFirstUndone aim undone before.rows group)
+    → Making left before now next.commit.changes → aim2 ≡ aim → undone2 ≡ undone → fits undone before.rows
+    → IsOnTheWay fits aim2 undone2 now.rows
+on_the_way fits aim aim2 undone undone2 before now group left next m same_aim same_undone room = record {
   before = before.rows;
   made = m.made;
   first = subst (λ (l : List Commit). IsFirstOf m.made l) (sym (same_undone ∙ next.first)) (m.rest, m.whole);
   aimed = ap (λ (l : List Commit). with_commits l before.rows) same_undone ∙ next.aimed ∙ sym same_aim;
+  room = subst (λ (l : List Commit). fits l before.rows) (sym same_undone) room;
   rows_are = ap (λ (h : Holding). h.rows) m.rows;
 }
+
+-- commits that have room keep it
+pub fits_same : (fits : List Commit → Tables → Type 0) {commits commits2 : List Commit} {rows rows2 : Tables} → commits2 ≡ commits → rows2 ≡ rows → fits commits rows → fits commits2 rows2
+fits_same fits {commits2 = commits2} {rows = rows} same_commits same_rows room =
+    subst (λ (t : Tables). fits commits2 t) (sym same_rows) (subst (λ (l : List Commit). fits l rows) (sym same_commits) room)
 
 -- the first changes of the group are set
 pub part_made : (before now : Holding) (left : List ℕ) (changes : List Change) → Making left before now changes

@@ -26,13 +26,15 @@ IsFirstOf made [] = made ≡ []
 IsFirstOf made (commit ∷ commits) = (rest : List Change) × (commit.changes ≡ made ++ rest)
 
 -- The rows are some rows with the first changes of the first commit that is not done. Those rows
--- with all commits that are
--- not done are the ones that are aimed at.
-pub record IsOnTheWay (aim : Tables) (undone : List Commit) (rows : Tables) : Type 0 where
+-- with all commits that are not done are the ones that are aimed at, and on them those commits have
+-- room.
+pub record IsOnTheWay (fits : List Commit → Tables → Type 0) (aim : Tables) (undone : List Commit)
+    (rows : Tables) : Type 0 where
   pub before : Tables
   pub made : List Change
   pub first : IsFirstOf made undone
   pub aimed : with_commits undone before ≡ aim
+  pub room : fits undone before
   pub rows_are : rows ≡ with_changes made before
 
 -- the bytes are the group of the first commit that is not done, and none of it is set

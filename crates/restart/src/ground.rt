@@ -1,7 +1,7 @@
 //! What a restart stands on.
-ghost use Rattle.std.specs.Prelude.{◌≡◌, ℕ, ◌+◌, List, ◌<◌, ◌≤◌, OnOk};
+ghost use Rattle.std.specs.Prelude.{◌≡◌, ℕ, ◌+◌, List, ◌∷◌, ◌<◌, ◌≤◌, OnOk};
 ghost use Rattle.mdb_model.specs.declared.change.Commit.{Commit};
-ghost use Rattle.mdb_model.specs.Tables.{Tables};
+ghost use Rattle.mdb_model.specs.Tables.{Tables, with_changes};
 ghost use Rattle.mdb_bytes.specs.Held.{HasRoomCause};
 ghost use Rattle.restart.specs.Redone.{IsOnTheWay, IsSetWhole};
 
@@ -44,6 +44,9 @@ pub trait Ground: Rows + LogRead {
     /// What a savepoint needs to be made at all, as that the devices are there.
     ghost can_save: { Self → Type 0 };
 
+    /// The commits have room on these rows, set one after the other.
+    ghost fits: { Self → List Commit → Tables → Type 0 };
+
     /// At each moment from the first value to the second the devices stood for the rows that they
     /// stood for at first.
     ghost keeps_aim: { Self → Self → Type 0 };
@@ -59,7 +62,8 @@ pub trait Ground: Rows + LogRead {
         ensures same { Self.is_known self.old
             → OnOk result (Self.is_known self.new × (Self.held self.new ≡ Self.held self.old)) }
         ensures kept { Self.is_known self.old → Self.stands self.old
-            → IsOnTheWay (Self.aim self.old) (Self.undone self.old) (Self.held self.old).rows
+            → IsOnTheWay (Self.fits self.old) (Self.aim self.old) (Self.undone self.old)
+            (Self.held self.old).rows
             → Self.keeps_aim self.old self.new
             × OnOk result (Self.stands self.new × (Self.aim self.new ≡ Self.aim self.old)
             × (Self.undone self.new ≡ Self.undone self.old)) }
@@ -103,4 +107,10 @@ pub trait Ground: Rows + LogRead {
     ghost comes_by_calls: { (a b : Self) → Self.follows a b → comes_after a b };
 
     ghost comes_on: { (a b c : Self) → comes_after a b → comes_after b c → comes_after a c };
+
+    ghost fits_on: { (a b : Self) → comes_after a b → (commits : List Commit) (rows : Tables)
+        → fits a commits rows → fits b commits rows };
+
+    ghost fits_rest: { (a : Self) (commit : Commit) (commits : List Commit) (rows : Tables)
+        → fits a (commit ∷ commits) rows → fits a commits (with_changes commit.changes rows) };
 }

@@ -34,7 +34,8 @@ fn redo_change<G: Ground>(ground: &mut G, change: LoggedChange<'_>) -> Result<()
         ≡ record (G.held ground.old)
         { rows = with_change (change_of change.entry) (G.held ground.old).rows })) }
     ensures kept { G.is_known ground.old → G.stands ground.old
-        → IsOnTheWay (G.aim ground.old) (G.undone ground.old) (G.held ground.old).rows
+        → IsOnTheWay (G.fits ground.old) (G.aim ground.old) (G.undone ground.old)
+        (G.held ground.old).rows
         → G.keeps_aim ground.old ground.new
         × OnOk result (G.stands ground.new × (G.aim ground.new ≡ G.aim ground.old)
         × (G.undone ground.new ≡ G.undone ground.old)) }
@@ -65,6 +66,7 @@ fn redo_group<G: Ground>(ground: &mut G, group: &GroupBuf) -> Result<(), PageFau
         × IsMade (G.held ground.old) (G.held ground.new) group.now) }
     ensures kept { G.is_known ground.old → G.stands ground.old
         → IsFirstUndone (G.aim ground.old) (G.undone ground.old) (G.held ground.old).rows group.now
+        → G.fits ground.old (G.undone ground.old) (G.held ground.old).rows
         → G.keeps_aim ground.old ground.new
         × OnOk result (G.stands ground.new × (G.aim ground.new ≡ G.aim ground.old)
         × (G.undone ground.new ≡ G.undone ground.old)) }
@@ -100,6 +102,7 @@ pub fn set_commit<G: Ground>(ground: &mut G, group: &GroupBuf, number: u64) -> R
         → (next : IsFirstUndone (G.aim ground.old) (G.undone ground.old) (G.held ground.old).rows
         group.now) → next.rest ≡ (G.held ground.old).log.commits
         → (G.held ground.old).log.after ≡ number → number ≡ G.last_done ground.old + 1
+        → G.fits ground.old (G.undone ground.old) (G.held ground.old).rows
         → G.keeps_aim ground.old ground.new
         × OnOk result (G.stands ground.new × (G.aim ground.new ≡ G.aim ground.old)
         × (G.undone ground.new ≡ (G.held ground.old).log.commits)) }
@@ -145,6 +148,7 @@ fn redo_next<G: Ground>(
     ensures kept { G.is_known ground.old → G.stands ground.old
         → IsReadyToRedo (G.aim ground.old) (G.undone ground.old) (G.last_done ground.old)
         (G.held ground.old)
+        → G.fits ground.old (G.undone ground.old) (G.held ground.old).rows
         → G.keeps_aim ground.old ground.new
         × IfOk result (λ number. G.stands ground.new × (G.aim ground.new ≡ G.aim ground.old)
         × IsNextDone number (G.undone ground.old) (G.undone ground.new)
@@ -202,6 +206,7 @@ pub fn redo<G: Ground>(
     ensures kept { G.is_known ground.old → G.stands ground.old
         → IsReadyToRedo (G.aim ground.old) (G.undone ground.old) (G.last_done ground.old)
         (G.held ground.old)
+        → G.fits ground.old (G.undone ground.old) (G.held ground.old).rows
         → G.keeps_aim ground.old ground.new
         × OnOk result (G.stands ground.new × (G.aim ground.new ≡ G.aim ground.old)
         × (G.undone ground.new ≡ commits_behind until (G.held ground.old).log)) }

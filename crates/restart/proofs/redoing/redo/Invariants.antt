@@ -19,7 +19,9 @@ invariant-loop-count g l = record {
   behind : g.G.Held.is_known l.fn.ground → commits_behind l.until (g.G.Held.held l.ground).log ≡ commits_behind l.until (g.G.Held.held l.fn.ground).log;
   set : g.G.Held.is_known l.fn.ground → SetSoFar (g.G.Held.held l.fn.ground) (g.G.Held.held l.ground);
   kept : g.G.Held.is_known l.fn.ground → g.G.Ground.stands l.fn.ground → IsReadyToRedo (g.G.Ground.aim l.fn.ground) (g.G.Ground.undone l.fn.ground) (g.G.Ground.last_done l.fn.ground) (g.G.Held.held l.fn.ground)
-      → g.G.Ground.keeps_aim l.fn.ground l.ground × (g.G.Ground.stands l.ground × (g.G.Ground.aim l.ground ≡ g.G.Ground.aim l.fn.ground) × IsReadyToRedo (g.G.Ground.aim l.ground) (g.G.Ground.undone l.ground) (g.G.Ground.last_done l.ground) (g.G.Held.held l.ground));
+      → g.G.Ground.fits l.fn.ground (g.G.Ground.undone l.fn.ground) (g.G.Held.held l.fn.ground).rows
+      → g.G.Ground.keeps_aim l.fn.ground l.ground × (g.G.Ground.stands l.ground × (g.G.Ground.aim l.ground ≡ g.G.Ground.aim l.fn.ground) × IsReadyToRedo (g.G.Ground.aim l.ground) (g.G.Ground.undone l.ground) (g.G.Ground.last_done l.ground) (g.G.Held.held l.ground)
+      × g.G.Ground.fits l.ground (g.G.Ground.undone l.ground) (g.G.Held.held l.ground).rows);
   ready : g.G.Ground.can_save l.ground;
   numbers : g.G.Ground.numbers l.fn.ground + g.G.LogRead.left l.ground ≤ g.G.Ground.numbers l.ground + g.G.LogRead.left l.fn.ground;
   told : g.G.Ground.last_done l.ground ≡ unwrap_or l.last (g.G.Ground.last_done l.fn.ground);

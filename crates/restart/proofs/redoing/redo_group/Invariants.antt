@@ -14,6 +14,7 @@ invariant-loop-change g l = record {
       → Making l.changes (g.G.Held.held l.fn.ground) (g.G.Held.held l.ground) changes;
   kept : g.G.Held.is_known l.fn.ground → g.G.Ground.stands l.fn.ground
       → IsFirstUndone (g.G.Ground.aim l.fn.ground) (g.G.Ground.undone l.fn.ground) (g.G.Held.held l.fn.ground).rows l.fn.group
+      → g.G.Ground.fits l.fn.ground (g.G.Ground.undone l.fn.ground) (g.G.Held.held l.fn.ground).rows
       → g.G.Ground.keeps_aim l.fn.ground l.ground × (g.G.Ground.stands l.ground × (g.G.Ground.aim l.ground ≡ g.G.Ground.aim l.fn.ground) × (g.G.Ground.undone l.ground ≡ g.G.Ground.undone l.fn.ground));
   ready : g.G.Ground.can_save l.ground;
   numbers : g.G.Ground.numbers l.fn.ground + length l.changes ≤ g.G.Ground.numbers l.ground + length l.fn.group;

@@ -4,7 +4,7 @@ use Rattle.mdb_bytes.specs.declared.group.GroupHead.{GroupHead}
 use Rattle.mdb_bytes.specs.Fields.{Spells}
 use Rattle.mdb_bytes.specs.Groups.{Group, group_format}
 use Rattle.mdb_bytes.specs.Held.{Holding, LogLeft, IsNextGroup}
-use Rattle.restart.proofs.Steps.{first_undone, part_first, next-redone, made_log, upto-behind, number-small, cause_passed, if_passed}
+use Rattle.restart.proofs.Steps.{first_undone, rows_are, fits_same, part_first, next-redone, made_log, upto-behind, number-small, cause_passed, if_passed}
 use Rattle.restart.proofs.redoing.redo_next.Goals as goal
 
 pub returns-in_default-clause-next : goal.returns-in_default-clause-next
@@ -43,7 +43,7 @@ returns-clause-next g c = λ k.
     )
 
 pub returns-clause-kept : goal.returns-clause-kept
-returns-clause-kept g c = λ k s ready.
+returns-clause-kept g c = λ k s ready fits.
     let old = c.args.ground.now in
     let mid = c.next.new.self in
     let new = c.set_commit.new.ground in
@@ -55,12 +55,13 @@ returns-clause-kept g c = λ k s ready.
     let read = g.met.G.Ground.keeps_by_calls old mid c.next.ensures.follows s in
     let at = read.1 in
     let on = c.in_ok-set_commit.ensures.kept same.0 at.0 (first_undone _ _ _ found same.1 _ _ _ _ _ ready at.1 at.2) refl (found.3 ∙ sym number_is)
-    (number_is ∙ ap (λ (n : ℕ). n + 1) (sym (g.met.G.Ground.keeps_last old mid c.next.ensures.follows ∙ ready.at))) in
+    (number_is ∙ ap (λ (n : ℕ). n + 1) (sym (g.met.G.Ground.keeps_last old mid c.next.ensures.follows ∙ ready.at)))
+    (fits_same (g.G.Ground.fits mid) at.2 (rows_are _ _ _ found same.1) (g.met.G.Ground.fits_on old mid (g.met.G.Ground.comes_by_calls old mid c.next.ensures.follows) _ _ fits)) in
     let log = made_log (g.G.Held.held old) (g.G.Held.held mid) (g.G.Held.held new) c.next.new.into found (c.in_ok-set_commit.ensures.made same.0).1 in
     (g.met.G.Ground.kept_on old mid new read.0 at.1 on.0, (on.1.0, on.1.1 ∙ at.1, on.1.2 ∙ ap (λ (l : LogLeft). l.commits) (sym log)))
 
 pub returns-in_err-set_commit-clause-kept : goal.returns-in_err-set_commit-clause-kept
-returns-in_err-set_commit-clause-kept g c = λ k s ready.
+returns-in_err-set_commit-clause-kept g c = λ k s ready fits.
     let old = c.args.ground.now in
     let mid = c.next.new.self in
     let new = c.set_commit.new.ground in
@@ -72,7 +73,8 @@ returns-in_err-set_commit-clause-kept g c = λ k s ready.
     let read = g.met.G.Ground.keeps_by_calls old mid c.next.ensures.follows s in
     let at = read.1 in
     let on = c.in_err-set_commit.ensures.kept same.0 at.0 (first_undone _ _ _ found same.1 _ _ _ _ _ ready at.1 at.2) refl (found.3 ∙ sym number_is)
-    (number_is ∙ ap (λ (n : ℕ). n + 1) (sym (g.met.G.Ground.keeps_last old mid c.next.ensures.follows ∙ ready.at))) in
+    (number_is ∙ ap (λ (n : ℕ). n + 1) (sym (g.met.G.Ground.keeps_last old mid c.next.ensures.follows ∙ ready.at)))
+    (fits_same (g.G.Ground.fits mid) at.2 (rows_are _ _ _ found same.1) (g.met.G.Ground.fits_on old mid (g.met.G.Ground.comes_by_calls old mid c.next.ensures.follows) _ _ fits)) in
     (g.met.G.Ground.kept_on old mid new read.0 at.1 on.0, if_passed _ c.in_err-set_commit.field-0.0 c.from_residual-in_err-set_commit.result c.from_residual-in_err-set_commit.ensures.1)
 
 pub returns-in_err-set_commit-clause-cause : goal.returns-in_err-set_commit-clause-cause

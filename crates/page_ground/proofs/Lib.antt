@@ -1,0 +1,5 @@
+pub mod Log
+pub mod Holds
+pub mod Setting
+pub mod Savepoints
+pub mod Passing

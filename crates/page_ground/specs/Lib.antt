@@ -1,0 +1,5 @@
+pub mod Readers
+pub mod LogKnown
+pub mod LogLaws
+pub mod Aims
+pub mod AimLaws

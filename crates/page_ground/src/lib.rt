@@ -1,0 +1,9 @@
+//! Rows on the pages of a store, and the log on its devices.
+#![tactic(auto)]
+
+mod ground;
+mod saving;
+mod set_point;
+
+pub use ground::PageGround;
+pub use set_point::SetPoint;
