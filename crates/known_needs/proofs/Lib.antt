@@ -1,6 +1,7 @@
 pub mod Found
 pub mod SessionSums
 pub mod LastChanges
+pub mod LoadedKnown
 pub mod FirstKnown
 pub mod UndoKnown
 pub mod PlaceSums

@@ -1,13 +1,14 @@
 //! What is known of a world, and what that needs. The functions do nothing: their contracts are the
 //! laws.
-ghost use Rattle.std.specs.Prelude.{◌≡◌, ℕ, ◌<◌, true, false, length};
+ghost use Rattle.std.specs.Prelude.{◌≡◌, ℕ, ◌<◌, ◌≤◌, [], None, true, false, length, slice_index};
+ghost use Rattle.std.specs.FinMap.{empty};
 ghost use Rattle.mdb_model.specs.declared.change.Change.{Change};
 ghost use Rattle.mdb_model.specs.History.{tables_of};
-ghost use Rattle.mdb_model.specs.Space.{need, present, tree_pages, undo_now};
+ghost use Rattle.mdb_model.specs.Space.{need, present, table_cost, tree_pages, undo_now};
 ghost use Rattle.mdb_model.specs.Steps.{changed, committed_by};
 ghost use Rattle.mdb_model.specs.Worlds.{World, created, without_transaction};
 ghost use Rattle.space_rule.specs.KnownCosts.{KnownCosts, all_table_pages, need_of, undo_of};
-ghost use Rattle.space_rule.specs.KnownCosts.{noted, ended};
+ghost use Rattle.space_rule.specs.KnownCosts.{changes_at, noted, ended};
 ghost use Rattle.session_room.specs.SessionRoom.{ChangesAreApart};
 ghost use Rattle.known_needs.specs.KnownNeeds.{IsKnownOf, length_seen, nothing_known};
 
@@ -15,6 +16,17 @@ ghost use Rattle.known_needs.specs.KnownNeeds.{IsKnownOf, length_seen, nothing_k
 pub fn nothing_is_known_at_first()
     ensures { (birth blocks ring : ℕ)
         → IsKnownOf (nothing_known blocks) (created birth blocks ring) }
+{}
+
+/// Where the committed cost of each table is loaded and no change is open, what is known is of a
+/// database without sessions, snapshots and a backup under way.
+pub fn what_is_loaded_is_known()
+    ensures { (known : KnownCosts) (w : World) → known.blocks ≡ w.blocks → known.kept ≡ 0
+        → w.snapshots ≡ empty → w.backup_task ≡ None → w.sessions ≡ empty
+        → ((table : ℕ) → 1 ≤ table → table ≤ 500 → slice_index known.committed table
+        ≡ table_cost (tables_of w.history) (tables_of w.history) table)
+        → ((session : ℕ) → changes_at known.sessions session ≡ [])
+        → IsKnownOf known w }
 {}
 
 /// The undo pages are those of the world.

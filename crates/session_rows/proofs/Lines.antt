@@ -53,7 +53,7 @@ module _ (reading : PageReading) (outside : World) where
   kept_off : (line : Command) (cause : Refusal) → refusal reading here no_facts line ≡ Some cause → OneStep reading here line (refused cause) here
   kept_off line cause is =
       entry_refused reading (here ∷ []) line cause
-      (All-cons (λ w. refusal reading w no_facts line ≡ Some cause) here [] is (All-nil _))
+      (All-cons (λ w. refusal reading w no_facts line ≡ Some cause) here [] is (All-nil (λ w. refusal reading w no_facts line ≡ Some cause)))
 
   only_first : (cause : Option Refusal) → first_cause (cause ∷ None ∷ None ∷ None ∷ []) ≡ cause
   only_first None = refl

@@ -1,3 +1,4 @@
+pub mod Encoding
 pub mod NetChanges
 pub mod NetLists
 pub mod Numbered

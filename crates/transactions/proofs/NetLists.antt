@@ -2,11 +2,12 @@
 --     values-placed, values_from, len_of      the list is the values of its map
 --     lookup-find, insert-put, remove_absent      std's map reads and changes its entries as a finite map does
 --     sorted_kept, kept_values      the entries that are kept ascend, and their changes are the values of their map
---     found_fits, found_within, group-with      a change that is found, and the bytes of a group with one more change
+--     found_fits, any_fits, found_within, group-with      a change that is found, and the bytes of a group with one more change
 --     with_put, values-put      the values after a put, of the list and of the map
 --     put-map, put-kept      the entries after a put: their map, and that they are kept
 --     rest_behind      the entries after a place
-use Rattle.std.proofs.Common.{◌≡◌, refl, sym, ap, ◌∙◌, subst, ℕ, zero, suc, ◌+◌, ◌<◌, ◌≤◌, Bool, true, false, not, ◌&&◌, cond, T, List, [], ◌∷◌, map, filter, drop, length, get_or, Ordering, Some, None, unwrap_or, option_map, IsTrue, arith}
+use Rattle.std.proofs.Common.{◌≡◌, refl, sym, ap, ◌∙◌, subst, ℕ, zero, suc, ◌+◌, ◌<◌, ◌≤◌, Bool, true, false, not, ◌&&◌, cond, T, List, [], ◌∷◌, map, filter, drop, length, get_or, Ordering, Option, Some, None, unwrap_or, option_map, IsTrue, arith}
+use Rattle.std.specs.Prelude.{IfSome}
 use Rattle.std.specs.List.{list_all, sum_by, AllByRecursion}
 use Rattle.std.specs.List.Sorted.{IsStrictlySortedBy}
 use Rattle.std.specs.Map.{lookup, remove_entry, keys_of, values_of}
@@ -157,6 +158,12 @@ module _ (place : Place) (c : Change) where
         ≡ change_bytes e.1 + sum_by change_bytes
         (values_of es) = sum_by-cons change_bytes e.1 (values_of es) in
         omega (arith, sum, rest is)
+
+-- so does one that may be found
+pub any_fits : (place : Place) (es : List (Place × Change)) (o : Option Change) → o ≡ find place_cmp place es
+    → IsTrue (list_all change_fits (values_of es)) → IfSome o (λ change. IsTrue (change_fits change))
+any_fits place es (Some c) is all = found_fits place c change_fits es (sym is) all
+any_fits place es None is all = tt
 
 -- the bytes of a group with one more change: it takes the place of an earlier one of its key
 pub group-with : (es : List (Place × Change)) → AreNetByPlace es → (place : Place) (c : Change)

@@ -1,10 +1,11 @@
 -- What is kept of the changes of a transaction.
 --     seen_row      the value of a row to a transaction that changed it last so, or not at all
+--     seen_length      the length of that value
 --     keyed_change      a change under its place
 --     AreNet      the last change of each key, within the limits of a group
 --     AreNetByPlace, net_code      the last change of each key, within the limits of a group; how
 --         these are stored
-use Rattle.std.specs.Prelude.{◌≡◌, ℕ, ◌≤◌, List, map, Option, Some, None, IsTrue}
+use Rattle.std.specs.Prelude.{◌≡◌, ℕ, ◌≤◌, List, length, map, Option, Some, None, option_map, IsTrue}
 use Rattle.std.specs.List.{list_all}
 use Rattle.std.specs.Coded.{Coded, coded×, coded_ℕ, coded_list}
 use Rattle.std.specs.FinMap as fin
@@ -22,6 +23,10 @@ abbrev pub seen_row : Option Change → Option (List ℕ) → Option (List ℕ)
 seen_row (Some (Put table key value)) committed = Some value
 seen_row (Some (Del table key)) committed = None
 seen_row None committed = committed
+
+-- the length of that value
+abbrev pub seen_length : Option Change → Option (List ℕ) → Option ℕ
+seen_length change committed = option_map (λ value. length value) (seen_row change committed)
 
 abbrev pub place_code : Coded Place
 place_code = coded× coded_ℕ (coded_list coded_ℕ)

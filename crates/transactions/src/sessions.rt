@@ -1,5 +1,5 @@
 //! The transactions of all sessions.
-ghost use Rattle.std.specs.Prelude.{◌≡◌, ℕ, ◌<◌, ◌≤◌, Bool, true, false, None, Some, length, IfOk, IfErr, OnOk, IsTrue, is_some, map, drop, Err};
+ghost use Rattle.std.specs.Prelude.{◌≡◌, ℕ, ◌<◌, ◌≤◌, Bool, true, false, None, Some, length, IfOk, IfErr, IfSome, OnOk, IsTrue, is_some, option_map, map, drop, Err};
 ghost use Rattle.std.specs.List.{list_all};
 ghost use Rattle.std.specs.FinMap.{empty, get, insert, len, values};
 ghost use Rattle.mdb_model.specs.declared.change.Change.TheVariants.{Put, Del};
@@ -7,23 +7,24 @@ ghost use Rattle.mdb_model.specs.Script.{is_session, is_table, is_key};
 ghost use Rattle.mdb_model.specs.Tables.{place_cmp, place_of};
 ghost use Rattle.mdb_model.specs.Worlds.{Lock, ShareKey, ExclusiveKey, ShareTable};
 ghost use Rattle.mdb_model.specs.Sessions.{group_bytes};
-ghost use Rattle.mdb_bytes.specs.Fields.{rises};
-ghost use Rattle.mdb_bytes.specs.Groups.{change_fits, longest_group};
+ghost use Rattle.mdb_bytes.specs.Fields.{rises, number_limit, Spells};
+ghost use Rattle.mdb_bytes.specs.Groups.{change_fits, group_format, longest_group};
 ghost use Rattle.mdb_bytes.specs.Held.{IsFoundRow, HasPageCause};
 ghost use Rattle.sorted_places.specs.Search.{IsPast};
 ghost use Rattle.record_locks.specs.Holders.{bars, holder_in};
-ghost use Rattle.transactions.specs.Net.{keyed_change, seen_row};
+ghost use Rattle.transactions.specs.Locked.{AreLocked};
+ghost use Rattle.transactions.specs.Net.{keyed_change, seen_row, seen_length};
 ghost use Rattle.transactions.specs.Ongoing.{changes_of, EndsTransaction};
 ghost use Rattle.transactions.specs.Calls.{TakesLock, PutDoes, DelDoes, UnlessPage, HasTxCause, bytes_with};
 
 use crate::fault::TxFault;
 use crate::place::ChangePlace;
 use crate::transaction::OpenTransaction;
-use mdb_bytes::Rows;
+use mdb_bytes::{GroupBuf, Rows};
 use mdb_model::bytes::{Key, KeyBuf, Value, ValueBuf};
 use mdb_model::change::Change;
 use mdb_model::fault::{Memory, PageFault};
-use mdb_model::name::{Session, Table};
+use mdb_model::name::{Name, Session, Table};
 use record_locks::Locks;
 use std::alloc::Global;
 use std::array;
@@ -90,6 +91,57 @@ fn read_row<R: Rows>(
     }
 }
 
+// The length of the value of a row, as the session with these changes sees it.
+fn row_len<R: Rows>(
+    own: &OpenTransaction,
+    rows: &mut R,
+    table: Table,
+    key: &Key,
+) -> Result<Option<usize>, PageFault>
+    requires table { IsTrue (is_table table.0) }
+    requires key { IsTrue (is_key key.now) }
+    ensures seen { R.is_known rows.old → IfOk result (λ len. len
+        ≡ seen_length (get own.now (table.0, key.now))
+        (get (R.held rows.old).rows (table.0, key.now))) }
+    ensures small { IfOk result (λ len. IfSome len (λ n. n ≤ 1500)) }
+    ensures same { R.is_known rows.old → OnOk result (R.is_known rows.new
+        × (R.held rows.new ≡ R.held rows.old)) }
+    ensures spare { R.spare rows.old ≤ R.spare rows.new }
+    ensures cause { HasPageCause (R.is_known rows.old) (R.faults rows.old) (R.faults rows.new)
+        result }
+    ensures quiet { IfErr result (λ fault. fault ≡ PageFault.Failed → R.reads_devices rows.old) }
+    ensures follows { R.follows rows.old rows.new }
+{
+    match own.get(table, key) {
+        Some(Change::Put(_, _, value)) => Ok(Some(value.bytes().len())),
+        Some(Change::Del(_, _)) => Ok(None),
+        None => committed_len(rows, table, key),
+    }
+}
+
+// The length of the value of a committed row.
+fn committed_len<R: Rows>(rows: &mut R, table: Table, key: &Key) -> Result<Option<usize>, PageFault>
+    requires table { IsTrue (is_table table.0) }
+    requires key { IsTrue (is_key key.now) }
+    ensures seen { R.is_known rows.old → IfOk result (λ len. len
+        ≡ option_map (λ value. length value) (get (R.held rows.old).rows (table.0, key.now))) }
+    ensures small { IfOk result (λ len. IfSome len (λ n. n ≤ 1500)) }
+    ensures same { R.is_known rows.old → OnOk result (R.is_known rows.new
+        × (R.held rows.new ≡ R.held rows.old)) }
+    ensures spare { R.spare rows.old ≤ R.spare rows.new }
+    ensures cause { HasPageCause (R.is_known rows.old) (R.faults rows.old) (R.faults rows.new)
+        result }
+    ensures quiet { IfErr result (λ fault. fault ≡ PageFault.Failed → R.reads_devices rows.old) }
+    ensures follows { R.follows rows.old rows.new }
+{
+    let mut value = ValueBuf::new();
+    if rows.get(table, key.bytes(), &mut value)? {
+        Ok(Some(value.len()))
+    } else {
+        Ok(None)
+    }
+}
+
 // A put that shares the memory of its key and its value.
 fn put_of(table: Table, key: &Key, value: &Value) -> Result<Change, Memory>
     ensures { IfOk result (λ change. change ≡ Put table key.now value.now) }
@@ -152,6 +204,36 @@ impl Transactions {
         self.locks.share_key(session, table, key)?;
         let found = read_row(&self.sessions[session.0 as usize], rows, table, key, into)?;
         Ok(found)
+    }
+
+    /// The length in bytes of the value that the session sees at the key, none where it sees no
+    /// row. It takes no lock and no memory, and reads the rows only where the session has not
+    /// changed the key.
+    pub fn seen_len<R: Rows>(
+        &self,
+        rows: &mut R,
+        session: Session,
+        table: Table,
+        key: &Key,
+    ) -> Result<Option<usize>, PageFault>
+        requires session { IsTrue (is_session session.0) }
+        requires table { IsTrue (is_table table.0) }
+        requires key { IsTrue (is_key key.now) }
+        ensures seen { R.is_known rows.old → IfOk result (λ len. len
+            ≡ seen_length (get (changes_of self.now session.0) (table.0, key.now))
+            (get (R.held rows.old).rows (table.0, key.now))) }
+        ensures small { IfOk result (λ len. IfSome len (λ n. n ≤ 1500)) }
+        ensures same { R.is_known rows.old → OnOk result (R.is_known rows.new
+            × (R.held rows.new ≡ R.held rows.old)) }
+        ensures locked { AreLocked self.now.locks self.now.changes }
+        ensures spare { R.spare rows.old ≤ R.spare rows.new }
+        ensures cause { HasPageCause (R.is_known rows.old) (R.faults rows.old) (R.faults rows.new)
+            result }
+        ensures quiet { IfErr result (λ fault. fault ≡ PageFault.Failed
+            → R.reads_devices rows.old) }
+        ensures follows { R.follows rows.old rows.new }
+    {
+        row_len(&self.sessions[session.0 as usize], rows, table, key)
     }
 
     /// Locks a table for a scan.
@@ -234,6 +316,26 @@ impl Transactions {
             key,
             &mut seen,
         )?;
+        self.del_where(visible, fits, session, table, key)
+    }
+
+    /// Deletes a row of which the caller knows whether the session sees it, as `del` does.
+    pub fn del_known(
+        &mut self,
+        visible: bool,
+        fits: bool,
+        session: Session,
+        table: Table,
+        key: &Key,
+    ) -> Result<bool, TxFault>
+        requires session { IsTrue (is_session session.0) }
+        requires limits { IsTrue (change_fits (Del table key.now)) }
+        ensures does { DelDoes self.old self.new session.0 (Del table key.now) fits visible result }
+        ensures no_page { (fault : PageFault) → result ≡ Err (TxFault.Page fault) → ⊥ }
+    {
+        if let Some(holder) = self.locks.holder(session, table, Some(key), true) {
+            return Err(TxFault::Locked(holder));
+        }
         self.del_where(visible, fits, session, table, key)
     }
 
@@ -358,6 +460,23 @@ impl Transactions {
         ensures fit { IfOk result (λ changes. group_bytes changes.items ≤ longest_group) }
     {
         self.sessions[session.0 as usize].listed(self.alloc)
+    }
+
+    /// The commit group of the session's net changes in place of what stood in `into`: the last
+    /// change of each key, by table and key. The session has them still. It takes no memory.
+    pub fn net_changes(&self, session: Session, name: Name, commit: u64, into: &mut GroupBuf)
+        requires session { IsTrue (is_session session.0) }
+        requires numbers { (name.birth < number_limit) × (name.generation < number_limit)
+            × (commit < number_limit) }
+        ensures group { Spells group_format (record {
+          name = name;
+          number = commit;
+          changes = values (changes_of self.now session.0);
+        }) into.new }
+        ensures len { length into.new ≡ group_bytes (values (changes_of self.now session.0)) }
+        ensures fit { length into.new ≤ longest_group }
+    {
+        self.sessions[session.0 as usize].encode(name, commit, into);
     }
 
     /// Takes back the room of changes that were listed and are not committed.

@@ -11,17 +11,18 @@ ghost use Rattle.mdb_model.specs.Script.{is_session};
 ghost use Rattle.mdb_model.specs.Tables.{place_cmp, place_of};
 ghost use Rattle.mdb_model.specs.Worlds.{ExclusiveKey};
 ghost use Rattle.mdb_model.specs.Sessions.{change_bytes, group_bytes};
-ghost use Rattle.mdb_bytes.specs.Fields.{rises};
-ghost use Rattle.mdb_bytes.specs.Groups.{change_fits, longest_group};
+ghost use Rattle.mdb_bytes.specs.Fields.{rises, number_limit, Spells};
+ghost use Rattle.mdb_bytes.specs.Groups.{change_fits, group_format, longest_group};
 ghost use Rattle.sorted_places.specs.Search.{IsPast};
 ghost use Rattle.record_locks.specs.Holders.{holder_in, HasLock};
 ghost use Rattle.transactions.specs.Net.{keyed_change, AreNetByPlace};
 
 use crate::place::{ChangePlace, copied_key};
+use mdb_bytes::{GroupBuf, begin_group, put_change};
 use mdb_model::bytes::{Key, KeyBuf, Value};
 use mdb_model::change::Change;
 use mdb_model::fault::Memory;
-use mdb_model::name::{Session, Table};
+use mdb_model::name::{Name, Session, Table};
 use record_locks::Locks;
 use std::alloc::Global;
 use std::collections::BTreeMap;
@@ -177,6 +178,31 @@ fn list_changes(changes: &ChangesByPlace, into: &mut Vec<Change>) -> Result<(), 
     Ok(())
 }
 
+// The group of the changes, which has so many bytes.
+fn encode_changes(
+    changes: &ChangesByPlace,
+    bytes: u64,
+    name: Name,
+    number: u64,
+    into: &mut GroupBuf,
+)
+    requires kept { AreNetByPlace changes.now.entries }
+    requires counted { bytes ≡ group_bytes (values_of changes.now.entries) }
+    requires numbers { (name.birth < number_limit) × (name.generation < number_limit)
+        × (number < number_limit) }
+    ensures group { Spells group_format (record {
+      name = name;
+      number = number;
+      changes = values_of changes.now.entries;
+    }) into.new }
+    ensures len { length into.new ≡ bytes }
+{
+    begin_group(into, bytes as u32, name, number, changes.len() as u32);
+    for change in changes.values() {
+        put_change(into, change);
+    }
+}
+
 impl OpenTransaction {
     /// No changes.
     pub(crate) fn new(alloc: Global) -> OpenTransaction
@@ -199,7 +225,8 @@ impl OpenTransaction {
 
     /// The last change of a key.
     pub(crate) fn get(&self, table: Table, key: &Key) -> Option<&Change>
-        ensures { option_copied result ≡ get self.now (table.0, key.now) }
+        ensures change { option_copied result ≡ get self.now (table.0, key.now) }
+        ensures fits { IfSome (option_copied result) (λ change. IsTrue (change_fits change)) }
     {
         find_change(&self.changes, table, key)
     }
@@ -289,6 +316,21 @@ impl OpenTransaction {
                 Err(Memory)
             }
         }
+    }
+
+    /// The commit group of the changes in place of what stood in `into`.
+    pub(crate) fn encode(&self, name: Name, number: u64, into: &mut GroupBuf)
+        requires numbers { (name.birth < number_limit) × (name.generation < number_limit)
+            × (number < number_limit) }
+        ensures group { Spells group_format (record {
+          name = name;
+          number = number;
+          changes = values self.now;
+        }) into.new }
+        ensures len { length into.new ≡ group_bytes (values self.now) }
+        ensures fit { length into.new ≤ longest_group }
+    {
+        encode_changes(&self.changes, self.bytes, name, number, into);
     }
 
     /// Takes back the room that was handed out.
