@@ -56,6 +56,6 @@ same_changes old new session same = ap (λ (list : List (FinMap place_cmp Change
 
 -- a scan has few rows enough to be counted
 pub few_seen : (rows : Tables) (ongoing : Ongoing) (session : Session) (table : Table) → (count : ℕ) → count ≡ len rows → count < 2 ^ 63 → (changes : ℕ) → changes ≡ length (values (changes_of ongoing session.0)) → changes < 2 ^ 63
-    → length (rows_of (seen_rows rows ongoing session.0) table.0) < 2 ^ 64
+    → length (rows_of (seen_rows rows ongoing session.0) table.0) + 1 < 2 ^ 64
 few_seen rows ongoing session table count counted few changes are small =
     omega (arith, some_rows (seen_rows rows ongoing session.0) table.0, all_changes (values (changes_of ongoing session.0)) rows, counted, few, are, small)

@@ -8,6 +8,7 @@ use Rattle.mdb_model.specs.Worlds.{World, off}
 use Rattle.mdb_model.specs.Answers.{Answer}
 use Rattle.mdb_model.specs.Runs.{Line, Entry}
 use Rattle.db_kernel.specs.Stretch.{LeavesOnly, MayBe, Does, Completes}
+use Rattle.db_kernel.proofs.Untied.{untied}
 
 module _ (reading : PageReading) (stands : Image → World → Type 0) where
   -- the devices went on by a step
@@ -22,6 +23,7 @@ module _ (reading : PageReading) (stands : Image → World → Type 0) where
     entry = entry;
     stop = λ t image from upto left. let a = goes.since t image from upto left in stop a.0 image a.1 a.2;
     stand = stand;
+    ties = λ w w' before there image left. untied line answer.reply w w' image;
   }
 
   -- no device was changed

@@ -31,15 +31,15 @@ use Rattle.db_kernel.specs.declared.database.Access.{Access}
 use Rattle.db_kernel.specs.declared.database.Access.TheVariants.{Admin, Online}
 use Rattle.db_kernel.specs.declared.database.Database.{Database}
 use Rattle.db_kernel.specs.Access.{open_state, state_of}
-use Rattle.db_kernel.specs.Kept.{FitsWorlds, FitsOpen, IsIn, IsAtWork, IsAtRest, HasAllCommits, AreOff, creation_of}
+use Rattle.db_kernel.specs.Kept.{HasWorlds, FitsOpen, IsIn, IsAtWork, IsAtRest, HasAllCommits, AreOff, creation_of}
 use Rattle.db_kernel.specs.Committing.{CommitDoes}
 use Rattle.session_rows.specs.Serving.{HasKeys}
 use Rattle.db_kernel.specs.Sessions.{IsOpen, IsIdle}
 use Rattle.standing.specs.Standing.{Creation, at_rest}
-use Rattle.session_rows.specs.Serving.{no_pages}
 use Rattle.db_kernel.specs.Working.{Moves, working, in_admin}
 use Rattle.db_kernel.proofs.Lines.{entry_state, entry_told, admin_step, kill_admin, offline_open, offline_admin, online_step}
 use Rattle.db_kernel.proofs.Moving.{moves_none, moves_offline, kill_off, kill_moves, kept_one}
+use Rattle.db_kernel.specs.Outside.{page_reading}
 
 -- all worlds of a kernel are in its state
 all_off : (ws : List World) → AreOff ws → All (λ w. w.state ≡ Offline) ws
@@ -52,22 +52,22 @@ in_state : (access : Access) (database : Database) (ws : List World) → IsIn ac
 in_state Admin database ws o = one_state (in_admin (creation_of database) o.commits) ws AdminState o.is refl
 in_state Online database ws o = one_state (working (creation_of database) o.commits o.sessions) ws OnlineState o.is refl
 
-all_in : (database : Option Database) (ws : List World) → FitsWorlds database ws → All (λ w. w.state ≡ state_of database) ws
+all_in : (database : Option Database) (ws : List World) → HasWorlds database ws → All (λ w. w.state ≡ state_of database) ws
 all_in None ws rest = all_off ws rest
 all_in (Some database) ws fit = in_state database.access database ws fit.at
 
 -- a line that the state does not admit
-pub kernel_refuses : (database : Option Database) (ws : List World) (line : Command) (state : State) → state_of database ≡ state → is_built line ≡ true → list_any (same_state state) (states_of line) ≡ false → FitsWorlds database ws
-    → Moves ws (Some line) (refused (WrongState state)) (FitsWorlds database)
+pub kernel_refuses : (database : Option Database) (ws : List World) (line : Command) (state : State) → state_of database ≡ state → is_built line ≡ true → list_any (same_state state) (states_of line) ≡ false → HasWorlds database ws
+    → Moves ws (Some line) (refused (WrongState state)) (HasWorlds database)
 kernel_refuses database ws line state is built not_admitted fit =
-    moves_none ws (Some line) (refused (WrongState state)) (FitsWorlds database)
-    (entry_state no_pages ws line state built not_admitted (subst (λ (s : State). All (λ w. w.state ≡ s) ws) is (all_in database ws fit))) fit
+    moves_none ws (Some line) (refused (WrongState state)) (HasWorlds database)
+    (entry_state page_reading ws line state built not_admitted (subst (λ (s : State). All (λ w. w.state ≡ s) ws) is (all_in database ws fit))) fit
 
 -- a line that is for an open database alone
-pub kernel_off : (database : Option Database) → database ≡ None → (ws : List World) (line : Command) → is_built line ≡ true → states_of line ≡ OnlineState ∷ [] → FitsWorlds database ws
-    → Moves ws (Some line) (refused (WrongState Offline)) (FitsWorlds database)
+pub kernel_off : (database : Option Database) → database ≡ None → (ws : List World) (line : Command) → is_built line ≡ true → states_of line ≡ OnlineState ∷ [] → HasWorlds database ws
+    → Moves ws (Some line) (refused (WrongState Offline)) (HasWorlds database)
 kernel_off database none ws line built states fit =
-    subst (λ (o : Option Database). FitsWorlds o ws → Moves ws (Some line) (refused (WrongState Offline)) (FitsWorlds o)) (sym none) (λ rest. moves_offline ws line built states rest) fit
+    subst (λ (o : Option Database). HasWorlds o ws → Moves ws (Some line) (refused (WrongState Offline)) (HasWorlds o)) (sym none) (λ rest. moves_offline ws line built states rest) fit
 
 pub kernel_admin : (database : Database) → database.access ≡ Admin → (ws : List World) (line : Command) → is_built line ≡ true → list_any (same_state AdminState) (states_of line) ≡ false → FitsOpen database ws
     → Moves ws (Some line) (refused (WrongState AdminState)) (FitsOpen database)
@@ -95,12 +95,12 @@ killed_in Admin database ws o =
     subst (λ (vs : List World). Moves vs (Some Kill) (plain OfflineNow) AreOff) (sym o.is)
     (record {
       after = at_rest (creation_of database) o.commits ∷ [];
-      entry = kill_admin no_pages (creation_of database) o.commits;
+      entry = kill_admin page_reading (creation_of database) o.commits;
       fit = All-cons (λ w. off w ≡ w) (at_rest (creation_of database) o.commits) [] refl (All-nil (λ w. off w ≡ w));
       kept = kept_one (in_admin (creation_of database) o.commits) (at_rest (creation_of database) o.commits) refl;
     })
 
-pub kernel_killed : (database : Option Database) (ws : List World) → FitsWorlds database ws → Moves ws (Some Kill) (plain OfflineNow) (FitsWorlds None)
+pub kernel_killed : (database : Option Database) (ws : List World) → HasWorlds database ws → Moves ws (Some Kill) (plain OfflineNow) (HasWorlds None)
 kernel_killed None ws rest = kill_off ws rest
 kernel_killed (Some database) ws fit = killed_in database.access database ws fit.at
 
@@ -110,7 +110,7 @@ closed_in Online database ws o =
     subst (λ (vs : List World). Moves vs (Some DbOffline) (plain OfflineNow) AreOff) (sym o.is)
     (record {
       after = at_rest (creation_of database) o.commits ∷ [];
-      entry = offline_open no_pages (creation_of database) o.commits o.sessions;
+      entry = offline_open page_reading (creation_of database) o.commits o.sessions;
       fit = All-cons (λ w. off w ≡ w) (at_rest (creation_of database) o.commits) [] refl (All-nil (λ w. off w ≡ w));
       kept = kept_one (working (creation_of database) o.commits o.sessions) (at_rest (creation_of database) o.commits) refl;
     })
@@ -118,7 +118,7 @@ closed_in Admin database ws o =
     subst (λ (vs : List World). Moves vs (Some DbOffline) (plain OfflineNow) AreOff) (sym o.is)
     (record {
       after = at_rest (creation_of database) o.commits ∷ [];
-      entry = offline_admin no_pages (creation_of database) o.commits;
+      entry = offline_admin page_reading (creation_of database) o.commits;
       fit = All-cons (λ w. off w ≡ w) (at_rest (creation_of database) o.commits) [] refl (All-nil (λ w. off w ≡ w));
       kept = kept_one (in_admin (creation_of database) o.commits) (at_rest (creation_of database) o.commits) refl;
     })
@@ -126,13 +126,13 @@ closed_in Admin database ws o =
 not_false : false ≡ true → ⊥
 not_false e = cc
 
-pub kernel_closed : (database : Option Database) → is_some database ≡ true → (ws : List World) → FitsWorlds database ws → Moves ws (Some DbOffline) (plain OfflineNow) (FitsWorlds None)
+pub kernel_closed : (database : Option Database) → is_some database ≡ true → (ws : List World) → HasWorlds database ws → Moves ws (Some DbOffline) (plain OfflineNow) (HasWorlds None)
 kernel_closed None some ws fit = absurd (not_false some)
 kernel_closed (Some database) some ws fit = closed_in database.access database ws fit.at
 
 -- the state is told
-pub kernel_told : (database : Option Database) (ws : List World) → FitsWorlds database ws → Moves ws (Some DbState) (plain (StateIs (state_of database))) (FitsWorlds database)
-kernel_told database ws fit = moves_none ws (Some DbState) (plain (StateIs (state_of database))) (FitsWorlds database) (entry_told no_pages ws (state_of database) (all_in database ws fit)) fit
+pub kernel_told : (database : Option Database) (ws : List World) → HasWorlds database ws → Moves ws (Some DbState) (plain (StateIs (state_of database))) (HasWorlds database)
+kernel_told database ws fit = moves_none ws (Some DbState) (plain (StateIs (state_of database))) (HasWorlds database) (entry_told page_reading ws (state_of database) (all_in database ws fit)) fit
 
 -- the sessions are dismissed
 pub dismissed : (old new : Database) → old.access ≡ Online → new.access ≡ Admin → new.ring ≡ old.ring → (ws : List World) → FitsOpen old ws
@@ -155,7 +155,7 @@ admitted old at ws fit =
     subst (λ (x : List World × ℕ). Moves x.0 (Some DbOnline) (plain (OnlineAt x.1)) (FitsOpen (record old { access = Online }))) (λ i. (sym o.is i, number i))
     (record {
       after = working (creation_of old) o.commits empty ∷ [];
-      entry = online_step no_pages (creation_of old) o.commits;
+      entry = online_step page_reading (creation_of old) o.commits;
       fit = record {
         holds = fit.holds;
         at = record {
@@ -202,7 +202,7 @@ dismissed_all rows ongoing ongoing2 made end number ws o free unchanged most =
     subst (λ (x : List World × ℕ). Moves x.0 (Some DbAdmin) (plain (AdminAt x.1)) (IsIdle rows ongoing2 made end number)) (λ i. (sym o.is i, count i))
     (record {
       after = in_admin made o.commits ∷ [];
-      entry = admin_step no_pages made o.commits o.sessions;
+      entry = admin_step page_reading made o.commits o.sessions;
       fit = record { commits = o.commits; is = refl; tables = o.tables; keys = o.keys; free = free; unchanged = unchanged; most = most; ends = o.ends; count = o.count; room = o.room };
       kept = kept_one (working made o.commits o.sessions) (in_admin made o.commits) refl;
     })

@@ -17,3 +17,6 @@ mod Starts
 pub mod Reaching
 pub mod Serving
 pub mod Staying
+pub mod Untied
+pub mod Fitting
+pub mod Asking

@@ -32,7 +32,7 @@ use Rattle.standing.specs.Standing.{Creation, Stands, at_rest}
 use Rattle.transactions.specs.Ongoing.{Ongoing, changes_of, EndsTransaction}
 use Rattle.transactions.specs.Standing.{MatchesWorld}
 use Rattle.transactions.proofs.Machine.{same-net, same-count, stands-ended}
-use Rattle.session_rows.specs.Serving.{no_pages, HasKeys, IsServed, IsAnswered}
+use Rattle.session_rows.specs.Serving.{HasKeys, IsServed, IsAnswered}
 use Rattle.db_kernel.specs.Working.{StandsForOneOf, Moves, working}
 use Rattle.db_kernel.specs.Sessions.{IsOpen}
 use Rattle.db_kernel.specs.Stretch.{LeavesOnly, MayBe, Completes}
@@ -44,9 +44,10 @@ use Rattle.session_rows.proofs.Entries.{OneStep, entry_starved}
 use Rattle.db_kernel.proofs.Lines.{entry_unbuilt, entry_offline, killed, kill_open, open_of}
 use Rattle.mdb_model.proofs.SerialPlaces.{with_commits-push}
 use Rattle.session_rows.proofs.Keys.{keys_after}
+use Rattle.db_kernel.specs.Outside.{page_reading, StandsFor}
 
 -- nothing happened
-pub moves_none : (ws : List World) (line : Line) (answer : Answer) (fits : List World → Type 0) → Entry no_pages ws line answer ws → fits ws → Moves ws line answer fits
+pub moves_none : (ws : List World) (line : Line) (answer : Answer) (fits : List World → Type 0) → Entry page_reading ws line answer ws → fits ws → Moves ws line answer fits
 moves_none ws line answer fits entry fit = record { after = ws; entry = entry; fit = fit; kept = λ image stands. stands }
 
 pub kept_one : (w w' : World) → off w ≡ off w' → (image : Image) → StandsForOneOf (w ∷ []) image → StandsForOneOf (w' ∷ []) image
@@ -58,24 +59,24 @@ only_one w image (v, (zero, inside, is), stands) = subst (λ (u : World). Stands
 only_one w image (v, (suc k, inside, is), stands) = absurd (omega arith)
 
 pub moves_unbuilt : (ws : List World) (line : Command) (fits : List World → Type 0) → is_built line ≡ false → fits ws → Moves ws (Some line) (refused Syntax) fits
-moves_unbuilt ws line fits not_built fit = moves_none ws (Some line) (refused Syntax) fits (entry_unbuilt no_pages ws line not_built) fit
+moves_unbuilt ws line fits not_built fit = moves_none ws (Some line) (refused Syntax) fits (entry_unbuilt page_reading ws line not_built) fit
 
-pub completes : (disk : Disk) (ws : List World) (line : Line) (answer : Answer) (fits : List World → Type 0) → Moves ws line answer fits → LeavesOnly no_pages Stands disk ws
-    → Completes no_pages Stands disk disk ws line answer fits
+pub completes : (disk : Disk) (ws : List World) (line : Line) (answer : Answer) (fits : List World → Type 0) → Moves ws line answer fits → LeavesOnly page_reading StandsFor disk ws
+    → Completes page_reading StandsFor disk disk ws line answer fits
 completes disk ws line answer fits moves stand = record {
   after = moves.after;
-  does = does_still no_pages Stands disk ws line answer moves.after moves.entry stand (λ image left. moves.kept image (stand image left));
+  does = does_still page_reading StandsFor disk ws line answer moves.after moves.entry stand (λ image left. moves.kept image (stand image left));
   fit = moves.fit;
 }
 
 -- Offline
 
 pub moves_offline : (ws : List World) (line : Command) → is_built line ≡ true → states_of line ≡ Online ∷ [] → AreOff ws → Moves ws (Some line) (refused (WrongState Offline)) AreOff
-moves_offline ws line built states rest = moves_none ws (Some line) (refused (WrongState Offline)) AreOff (entry_offline no_pages ws line built states rest) rest
+moves_offline ws line built states rest = moves_none ws (Some line) (refused (WrongState Offline)) AreOff (entry_offline page_reading ws line built states rest) rest
 
 pub kill_off : (ws : List World) → AreOff ws → Moves ws (Some Kill) (plain OfflineNow) AreOff
 kill_off ws rest =
-    let k = killed no_pages ws rest in
+    let k = killed page_reading ws rest in
     record { after = k.0; entry = k.1; fit = k.2; kept = λ image stands. (off stands.0, k.3 stands.0 stands.1, stands.2) }
 
 -- Online
@@ -86,7 +87,7 @@ module _ (rows : Tables) (ongoing : Ongoing) (made : Creation) (end number : ℕ
       subst (λ (vs : List World). Moves vs (Some Kill) (plain OfflineNow) AreOff) (sym o.is)
       (record {
         after = at_rest made o.commits ∷ [];
-        entry = kill_open no_pages made o.commits o.sessions;
+        entry = kill_open page_reading made o.commits o.sessions;
         fit = All-cons (λ w. off w ≡ w) (at_rest made o.commits) [] refl (All-nil (λ w. off w ≡ w));
         kept = kept_one (working made o.commits o.sessions) (at_rest made o.commits) refl;
       })
@@ -96,7 +97,7 @@ module _ (rows : Tables) (ongoing : Ongoing) (made : Creation) (end number : ℕ
   served = record { online = refl; tables = sym o.tables; keys = o.keys; stands = o.stands; most = o.most }
 
   -- a line of theirs was answered
-  pub answered_moves : (rows2 : Tables) (ongoing2 : Ongoing) (line : Command) (answer : Answer) → IsAnswered no_pages (working made o.commits o.sessions) line answer (IsServed rows2 ongoing2)
+  pub answered_moves : (rows2 : Tables) (ongoing2 : Ongoing) (line : Command) (answer : Answer) → IsAnswered page_reading (working made o.commits o.sessions) line answer (IsServed rows2 ongoing2)
       → Moves ws (Some line) answer (IsOpen rows2 ongoing2 made end number)
   answered_moves rows2 ongoing2 line answer a =
       subst (λ (vs : List World). Moves vs (Some line) answer (IsOpen rows2 ongoing2 made end number)) (sym o.is)
@@ -121,7 +122,7 @@ module _ (rows : Tables) (ongoing : Ongoing) (made : Creation) (end number : ℕ
   module _ (rows2 : Tables) (ongoing2 : Ongoing) (same : rows2 ≡ rows) where
     -- the sessions go on
     goes_on : (line : Command) (answer : Answer) (sessions2 : FinMap nat_cmp Transaction)
-        → OneStep no_pages (working made o.commits o.sessions) line answer (working made o.commits sessions2)
+        → OneStep page_reading (working made o.commits o.sessions) line answer (working made o.commits sessions2)
         → MatchesWorld ongoing2 (working made o.commits sessions2) → ongoing2.most ≡ ongoing.most
         → Moves ws (Some line) answer (IsOpen rows2 ongoing2 made end number)
     goes_on line answer sessions2 step stands most =
@@ -134,14 +135,14 @@ module _ (rows : Tables) (ongoing : Ongoing) (made : Creation) (end number : ℕ
 
     -- all stays as it is
     stays : (line : Command) (answer : Answer) → ongoing2 ≡ ongoing
-        → OneStep no_pages (working made o.commits o.sessions) line answer (working made o.commits o.sessions)
+        → OneStep page_reading (working made o.commits o.sessions) line answer (working made o.commits o.sessions)
         → Moves ws (Some line) answer (IsOpen rows2 ongoing2 made end number)
     stays line answer is step =
         goes_on line answer o.sessions step (subst (λ (x : Ongoing). MatchesWorld x (working made o.commits o.sessions)) (sym is) o.stands) (ap (λ (x : Ongoing). x.most) is)
 
     starves : (line : Command) → IsTrue (may_want_memory (working made o.commits o.sessions) (Some line)) → ongoing2 ≡ ongoing
         → Moves ws (Some line) (refused MemoryWanting) (IsOpen rows2 ongoing2 made end number)
-    starves line may is = stays line (refused MemoryWanting) is (entry_starved no_pages (working made o.commits o.sessions) line may)
+    starves line may is = stays line (refused MemoryWanting) is (entry_starved page_reading (working made o.commits o.sessions) line may)
 
     module _ (session : Session) (is_one : IsTrue (is_session session.0)) where
       -- once the session's transaction ended
@@ -161,7 +162,7 @@ module _ (rows : Tables) (ongoing : Ongoing) (made : Creation) (end number : ℕ
       pub commit_none : (len (changes_of ongoing session.0) == 0) ≡ true → EndsTransaction ongoing ongoing2 session.0
           → Moves ws (Some (CommitWork session)) (plain NothingToCommit) (IsOpen rows2 ongoing2 made end number)
       commit_none none end =
-          goes_on (CommitWork session) (plain NothingToCommit) (remove o.sessions session.0) (line.commit_nothing no_pages made o.commits o.sessions session (counted true none)) (ended end) end.most
+          goes_on (CommitWork session) (plain NothingToCommit) (remove o.sessions session.0) (line.commit_nothing page_reading made o.commits o.sessions session (counted true none)) (ended end) end.most
 
       pub commit_starved : (len (changes_of ongoing session.0) == 0) ≡ false → ongoing2 ≡ ongoing
           → Moves ws (Some (CommitWork session)) (refused MemoryWanting) (IsOpen rows2 ongoing2 made end number)
@@ -181,7 +182,7 @@ module _ (rows : Tables) (ongoing : Ongoing) (made : Creation) (end number : ℕ
             subst (λ (p : ℕ × ℕ). Moves ws (Some (CommitWork session)) (refused (LogFull p.0 p.1)) (IsOpen rows2 ongoing2 made end number))
             (λ i. (sym (is_end ∙ o.ends) i, sym is_size i))
             (stays (CommitWork session) (refused (LogFull (log_bytes o.commits) made.ring)) is
-            (line.commit_full no_pages made o.commits o.sessions session (counted false some) (omega (arith, full, o.ends, ap group_bytes net_is))))
+            (line.commit_full page_reading made o.commits o.sessions session (counted false some) (omega (arith, full, o.ends, ap group_bytes net_is))))
 
   module _ (session : Session) (is_one : IsTrue (is_session session.0)) (some : (len (changes_of ongoing session.0) == 0) ≡ false) where
     -- the changes in the machine
@@ -194,7 +195,7 @@ module _ (rows : Tables) (ongoing : Ongoing) (made : Creation) (end number : ℕ
     some_own : (length (open_of o.sessions session.0).changes == 0) ≡ false
     some_own = counted rows ongoing refl session is_one false some
 
-    module _ (fits_in : end + group_bytes (values (changes_of ongoing session.0)) + 1 ≤ made.ring) (d0 d1 : Disk) (stand : LeavesOnly no_pages Stands d0 ws)
+    module _ (fits_in : end + group_bytes (values (changes_of ongoing session.0)) + 1 ≤ made.ring) (d0 d1 : Disk) (stand : LeavesOnly page_reading StandsFor d0 ws)
         (goes_so : Goes d0 d1 (Appends made.ring made.name end number (values (changes_of ongoing session.0)))) where
       abbrev commit : Commit
       commit = record { changes = net_changes (open_of o.sessions session.0).changes }
@@ -226,32 +227,32 @@ module _ (rows : Tables) (ongoing : Ongoing) (made : Creation) (end number : ℕ
       outcomes = at_rest made o.commits ∷ at_rest made next ∷ []
 
       stop : (a b : Image) → d0.may_leave d0.now a → Appends made.ring made.name end number (net_changes (open_of o.sessions session.0).changes) a b
-          → (v : World) × Stands b v × MayBe no_pages Stands (working made o.commits o.sessions ∷ []) (Some (CommitWork session)) v
+          → (v : World) × Stands b v × MayBe page_reading StandsFor (working made o.commits o.sessions ∷ []) (Some (CommitWork session)) v
       stop a b left adds = elim (either a b left adds) [
         | inl st ↦ (at_rest made o.commits, st, (working made o.commits o.sessions, (0, omega arith, refl), inl refl))
         | inr st ↦ (
           at_rest made next,
           st,
-          (working made o.commits o.sessions, (0, omega arith, refl), inr (outcomes, line.commit_outcomes no_pages made o.commits o.sessions session some_own room, (1, omega arith, refl))),
+          (working made o.commits o.sessions, (0, omega arith, refl), inr (outcomes, line.commit_outcomes page_reading made o.commits o.sessions session some_own room, (1, omega arith, refl))),
         )
       ]
 
-      back : (answer : Answer) (fits : List World → Type 0) → Completes no_pages Stands d0 d1 (working made o.commits o.sessions ∷ []) (Some (CommitWork session)) answer fits
-          → Completes no_pages Stands d0 d1 ws (Some (CommitWork session)) answer fits
-      back answer fits here = subst (λ (vs : List World). Completes no_pages Stands d0 d1 vs (Some (CommitWork session)) answer fits) (sym o.is) here
+      back : (answer : Answer) (fits : List World → Type 0) → Completes page_reading StandsFor d0 d1 (working made o.commits o.sessions ∷ []) (Some (CommitWork session)) answer fits
+          → Completes page_reading StandsFor d0 d1 ws (Some (CommitWork session)) answer fits
+      back answer fits here = subst (λ (vs : List World). Completes page_reading StandsFor d0 d1 vs (Some (CommitWork session)) answer fits) (sym o.is) here
 
       -- a device failed
-      pub commit_in_doubt : Completes no_pages Stands d0 d1 ws (Some (CommitWork session)) (refused DeviceFailed) AreOff
+      pub commit_in_doubt : Completes page_reading StandsFor d0 d1 ws (Some (CommitWork session)) (refused DeviceFailed) AreOff
       commit_in_doubt =
           back (refused DeviceFailed) AreOff
           (record {
             after = outcomes;
-            does = does_step no_pages Stands d0 d1 (Appends made.ring made.name end number (net_changes (open_of o.sessions session.0).changes)) (working made o.commits o.sessions ∷ []) (Some (CommitWork session)) (refused DeviceFailed) outcomes goes
-                (line.commit_failed no_pages made o.commits o.sessions session some_own room) stop stand_after;
+            does = does_step page_reading StandsFor d0 d1 (Appends made.ring made.name end number (net_changes (open_of o.sessions session.0).changes)) (working made o.commits o.sessions ∷ []) (Some (CommitWork session)) (refused DeviceFailed) outcomes goes
+                (line.commit_failed page_reading made o.commits o.sessions session some_own room) stop stand_after;
             fit = All-cons (λ w. off w ≡ w) (at_rest made o.commits) (at_rest made next ∷ []) refl (All-cons (λ w. off w ≡ w) (at_rest made next) [] refl (All-nil (λ w. off w ≡ w)));
           })
         where
-          stand_after : LeavesOnly no_pages Stands d1 outcomes
+          stand_after : LeavesOnly page_reading StandsFor d1 outcomes
           stand_after image left =
               let a = goes.since d1.now image goes.keeps.later (omega arith) left in
               elim (either a.0 image a.1 a.2) [
@@ -263,14 +264,14 @@ module _ (rows : Tables) (ongoing : Ongoing) (made : Creation) (end number : ℕ
       pub commit_open : Arrives d0 d1 (Appended made.ring made.name end number (values (changes_of ongoing session.0))) → IsTrue (list_all change_fits (values (changes_of ongoing session.0)))
           → (rows2 : Tables) (ongoing2 : Ongoing) (made2 : Creation) (end2 number2 : ℕ) → made2 ≡ made → rows2 ≡ with_changes (values (changes_of ongoing session.0)) rows → EndsTransaction ongoing ongoing2 session.0
           → end2 ≡ end + group_bytes (values (changes_of ongoing session.0)) → number2 ≡ number + 1
-          → Completes no_pages Stands d0 d1 ws (Some (CommitWork session)) (plain (Committed number2)) (IsOpen rows2 ongoing2 made2 end2 number2)
+          → Completes page_reading StandsFor d0 d1 ws (Some (CommitWork session)) (plain (Committed number2)) (IsOpen rows2 ongoing2 made2 end2 number2)
       commit_open there_so fit rows2 ongoing2 made2 end2 number2 same_made set gone further more =
-          subst (λ (p : ℕ × Creation). Completes no_pages Stands d0 d1 ws (Some (CommitWork session)) (plain (Committed p.0)) (IsOpen rows2 ongoing2 p.1 end2 number2)) (λ i. (at i, sym same_made i))
+          subst (λ (p : ℕ × Creation). Completes page_reading StandsFor d0 d1 ws (Some (CommitWork session)) (plain (Committed p.0)) (IsOpen rows2 ongoing2 p.1 end2 number2)) (λ i. (at i, sym same_made i))
           (back (plain (Committed (0 + length o.commits + 1))) (IsOpen rows2 ongoing2 made end2 number2)
           (record {
             after = working made next (remove o.sessions session.0) ∷ [];
-            does = does_step no_pages Stands d0 d1 (Appends made.ring made.name end number (net_changes (open_of o.sessions session.0).changes)) (working made o.commits o.sessions ∷ []) (Some (CommitWork session)) (plain (Committed (0 + length o.commits + 1))) (working made next (remove o.sessions session.0) ∷ []) goes
-                (line.commit_step no_pages made o.commits o.sessions session some_own room) stop stand_after;
+            does = does_step page_reading StandsFor d0 d1 (Appends made.ring made.name end number (net_changes (open_of o.sessions session.0).changes)) (working made o.commits o.sessions ∷ []) (Some (CommitWork session)) (plain (Committed (0 + length o.commits + 1))) (working made next (remove o.sessions session.0) ∷ []) goes
+                (line.commit_step page_reading made o.commits o.sessions session some_own room) stop stand_after;
             fit = record {
               commits = next;
               sessions = remove o.sessions session.0;
@@ -295,7 +296,7 @@ module _ (rows : Tables) (ongoing : Ongoing) (made : Creation) (end number : ℕ
           at_next : MatchesWorld ongoing2 (working made o.commits (remove o.sessions session.0)) → MatchesWorld ongoing2 (working made next (remove o.sessions session.0))
           at_next stands = record { locks = stands.locks; changes = stands.changes; numbered = stands.numbered }
 
-          stand_after : LeavesOnly no_pages Stands d1 (working made next (remove o.sessions session.0) ∷ [])
+          stand_after : LeavesOnly page_reading StandsFor d1 (working made next (remove o.sessions session.0) ∷ [])
           stand_after image left =
               let a = there image left in (
                 working made next (remove o.sessions session.0),

@@ -29,12 +29,12 @@ use Rattle.db_kernel.specs.Kept.{AreOff, FitsOpen, IsIn, IsOf, OpenedIs, creatio
 use Rattle.session_rows.specs.Serving.{HasKeys}
 use Rattle.standing.specs.Standing.{Creation, Stands, at_rest, creation_at, ring_of}
 use Rattle.db_kernel.specs.Stretch.{LeavesOnly, Completes}
-use Rattle.session_rows.specs.Serving.{no_pages}
 use Rattle.db_kernel.specs.Working.{StandsForOneOf, working, in_admin}
 use Rattle.db_kernel.proofs.Doing.{does_calm}
 use Rattle.db_kernel.proofs.Keys.{keys_of_log}
 use Rattle.db_kernel.proofs.Lines.{entry_opened, opening_starves, opening_fails, opened_world}
 use Rattle.standing.proofs.RecordLaws.{AgreeOn, stands_agree}
+use Rattle.db_kernel.specs.Outside.{page_reading, StandsFor}
 
 -- the devices by their numbers
 volume_is : (i : ℕ) → i < 8 → device_at i ≡ Data (i + 1)
@@ -59,17 +59,17 @@ off_opened : (access : Access) (made : Creation) (commits : List Commit) → off
 off_opened Admin made commits = refl
 off_opened Online made commits = refl
 
-module _ (access : Access) (d0 d1 : Disk) (ws : List World) (rest : AreOff ws) (stand : LeavesOnly no_pages Stands d0 ws) (calm : Goes d0 d1 Agree) where
+module _ (access : Access) (d0 d1 : Disk) (ws : List World) (rest : AreOff ws) (stand : LeavesOnly page_reading StandsFor d0 ws) (calm : Goes d0 d1 Agree) where
   -- each image since stands for what it did
   standing : (image : Image) → d1.may_leave d1.now image → StandsForOneOf ws image
   standing image left =
       let a = calm.since d1.now image calm.keeps.later (omega arith) left in
       subst (λ (i : Image). StandsForOneOf ws i) (same_image a.0 image a.2) (stand a.0 a.1)
 
-  pub opening_starved : Completes no_pages Stands d0 d1 ws (Some (opens access)) (refused MemoryWanting) AreOff
+  pub opening_starved : Completes page_reading StandsFor d0 d1 ws (Some (opens access)) (refused MemoryWanting) AreOff
   opening_starved = record {
     after = ws;
-    does = does_calm no_pages Stands d0 d1 ws (Some (opens access)) (refused MemoryWanting) ws calm (opening_starves no_pages access ws rest) stand standing;
+    does = does_calm page_reading StandsFor d0 d1 ws (Some (opens access)) (refused MemoryWanting) ws calm (opening_starves page_reading access ws rest) stand standing;
     fit = rest;
   }
 
@@ -78,17 +78,17 @@ module _ (access : Access) (d0 d1 : Disk) (ws : List World) (rest : AreOff ws) (
     abbrev pub here : StandsForOneOf ws d0.seen
     here = stand d0.seen seen_left
 
-    pub opening_failed : Completes no_pages Stands d0 d1 ws (Some (opens access)) (refused DeviceFailed) AreOff
+    pub opening_failed : Completes page_reading StandsFor d0 d1 ws (Some (opens access)) (refused DeviceFailed) AreOff
     opening_failed =
-        let new = opening_fails no_pages access ws here.0 here.1 in
+        let new = opening_fails page_reading access ws here.0 here.1 in
         record {
           after = new.0;
-          does = does_calm no_pages Stands d0 d1 ws (Some (opens access)) (refused DeviceFailed) new.0 calm new.1 stand (λ image left. let w = standing image left in (off w.0, new.2 w.0 w.1, w.2));
+          does = does_calm page_reading StandsFor d0 d1 ws (Some (opens access)) (refused DeviceFailed) new.0 calm new.1 stand (λ image left. let w = standing image left in (off w.0, new.2 w.0 w.1, w.2));
           fit = new.3;
         }
 
     -- no other refusal is possible
-    pub opening_refused : (cause : Refusal) → OpenedIs here.2.site here.0.history.commits (Err cause) → Completes no_pages Stands d0 d1 ws (Some (opens access)) (refused cause) AreOff
+    pub opening_refused : (cause : Refusal) → OpenedIs here.2.site here.0.history.commits (Err cause) → Completes page_reading StandsFor d0 d1 ws (Some (opens access)) (refused cause) AreOff
     opening_refused DeviceFailed is = opening_failed
     opening_refused MemoryWanting is = opening_starved
     opening_refused Syntax is = absurd is
@@ -160,13 +160,13 @@ module _ (access : Access) (d0 d1 : Disk) (ws : List World) (rest : AreOff ws) (
           room = room;
         }
 
-        pub opening_done : database.access ≡ access → Completes no_pages Stands d0 d1 ws (Some (opens access)) (plain (opened_reply access database.ring.last_commit)) (FitsOpen database)
+        pub opening_done : database.access ≡ access → Completes page_reading StandsFor d0 d1 ws (Some (opens access)) (plain (opened_reply access database.ring.last_commit)) (FitsOpen database)
         opening_done told =
-            subst (λ (n : ℕ). Completes no_pages Stands d0 d1 ws (Some (opens access)) (plain (opened_reply access n)) (FitsOpen database)) at
+            subst (λ (n : ℕ). Completes page_reading StandsFor d0 d1 ws (Some (opens access)) (plain (opened_reply access n)) (FitsOpen database)) at
             (record {
               after = opened_world access made commits ∷ [];
-              does = does_calm no_pages Stands d0 d1 ws (Some (opens access)) (plain (opened_reply access (0 + length commits))) (opened_world access made commits ∷ []) calm
-                  (entry_opened no_pages access made commits ws (subst (λ (w : World). Contains ws w) w_is here.1)) stand
+              does = does_calm page_reading StandsFor d0 d1 ws (Some (opens access)) (plain (opened_reply access (0 + length commits))) (opened_world access made commits ∷ []) calm
+                  (entry_opened page_reading access made commits ws (subst (λ (w : World). Contains ws w) w_is here.1)) stand
                   (λ image left. (opened_world access made commits, (0, omega arith, refl), subst (λ (w : World). Stands image w) (sym (off_opened access made commits)) (stands_again image left)));
               fit = record { holds = is.holds; at = subst (λ (a : Access). IsIn a database (opened_world access made commits ∷ [])) (sym told) (fit_in access) };
             })

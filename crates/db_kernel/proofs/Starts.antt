@@ -21,9 +21,9 @@ use Rattle.mdb_model.specs.Pages.{PageReading}
 use Rattle.mdb_model.specs.Steps.{backups_of}
 use Rattle.mdb_model.specs.Worlds.{World, Lock, Transaction, transaction, no_transaction}
 use Rattle.mdb_model.proofs.Computing.{entries-empty}
-use Rattle.standing.specs.Standing.{Creation, Stands, at_rest, creation_at}
+use Rattle.standing.specs.Standing.{Creation, at_rest, creation_at}
 use Rattle.db_kernel.specs.Starting.{own_age}
-use Rattle.session_rows.specs.Serving.{no_pages}
+use Rattle.db_kernel.specs.Outside.{page_reading, StandsFor}
 
 -- Names are in a total order.
 names_total : IsTotalOrder name_cmp
@@ -97,13 +97,13 @@ module _ (reading : PageReading) (made : Creation) (commits : List Commit) where
 
 -- a call may start on images that stand for one world
 pub starts : (said : ℕ → List ℕ) (may_leave : ℕ → Image → Type 0) (now : ℕ)
-    → (seen : Image) → may_leave now seen → (w : World) → ((image : Image) → may_leave now image → Stands image w)
-    → CanStart no_pages said may_leave Stands now ((w, own_age w) ∷ [])
+    → (seen : Image) → may_leave now seen → (w : World) → ((image : Image) → may_leave now image → StandsFor image w)
+    → CanStart page_reading said may_leave StandsFor now ((w, own_age w) ∷ [])
 starts said may_leave now seen left w stand =
     let s = stand seen left in
-    let Fits : World → Type 0 = λ w. IsSound no_pages w × (w.state ≡ Offline) × Agrees no_pages w (own_age w) in
-    let fits : Fits w = subst Fits (sym s.is) (is_sound no_pages (creation_at s.site) w.history.commits, refl, agrees no_pages (creation_at s.site) w.history.commits) in
+    let Fits : World → Type 0 = λ w. IsSound page_reading w × (w.state ≡ Offline) × Agrees page_reading w (own_age w) in
+    let fits : Fits w = subst Fits (sym s.is) (is_sound page_reading (creation_at s.site) w.history.commits, refl, agrees page_reading (creation_at s.site) w.history.commits) in
     record {
-      worlds = all_one (λ (e : World × Ages). IsSound no_pages e.0 × (e.0.state ≡ Offline) × Agrees no_pages e.0 e.1) (w, own_age w) fits;
+      worlds = all_one (λ (e : World × Ages). IsSound page_reading e.0 × (e.0.state ≡ Offline) × Agrees page_reading e.0 e.1) (w, own_age w) fits;
       images = λ image may. ((w, own_age w), (0, omega arith, refl), stand image may);
     }

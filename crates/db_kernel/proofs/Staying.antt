@@ -15,7 +15,7 @@ use Rattle.standing.specs.Standing.{Creation}
 use Rattle.db_kernel.specs.declared.database.Access.{Access}
 use Rattle.db_kernel.specs.declared.database.Access.TheVariants.{Admin, Online}
 use Rattle.db_kernel.specs.declared.database.Database.{Database}
-use Rattle.db_kernel.specs.Kept.{IsWholeLog, HasAllCommits, Ready, Meets, FitsWorlds, IsIn, scanned_rows}
+use Rattle.db_kernel.specs.Kept.{IsWholeLog, HasAllCommits, Ready, Meets, HasWorlds, IsIn, scanned_rows}
 use Rattle.db_kernel.specs.Refusing.{KeepsDatabase, IsAsBefore}
 use Rattle.db_kernel.specs.Sessions.{IsOpen, IsIdle}
 
@@ -66,7 +66,7 @@ in_on : (access : Access) (old new : Database) → KeepsDatabase old new → (ws
 in_on Online old new so ws at = subst (λ (k : Known). IsOpen k.1 k.2 (known_made k) k.3.end_position k.3.last_commit ws) (λ i. (sym so.blocks i, sym so.rows i, sym so.transactions i, sym so.ring i)) at
 in_on Admin old new so ws at = subst (λ (k : Known). IsIdle k.1 k.2 (known_made k) k.3.end_position k.3.last_commit ws) (λ i. (sym so.blocks i, sym so.rows i, sym so.transactions i, sym so.ring i)) at
 
-pub fits_on : (old new : Option Database) → IsAsBefore old new → (ws : List World) → FitsWorlds old ws → FitsWorlds new ws
+pub fits_on : (old new : Option Database) → IsAsBefore old new → (ws : List World) → HasWorlds old ws → HasWorlds new ws
 fits_on None None so ws fit = fit
 fits_on None (Some new) so ws fit = absurd so
 fits_on (Some old) None so ws fit = absurd so

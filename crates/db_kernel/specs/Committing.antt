@@ -8,15 +8,15 @@ use Rattle.mdb_model.specs.declared.script.Refusal.TheVariants.{DeviceFailed}
 use Rattle.mdb_model.specs.declared.script.Reply.{Reply}
 use Rattle.mdb_model.specs.Worlds.{World}
 use Rattle.mdb_model.specs.Answers.{plain, refused}
-use Rattle.standing.specs.Standing.{Stands}
 use Rattle.mdb_host.specs.Disk.{Disk}
 use Rattle.db_kernel.specs.Kept.{AreOff}
 use Rattle.db_kernel.specs.Stretch.{Completes}
-use Rattle.session_rows.specs.Serving.{no_pages}
+use Rattle.db_kernel.specs.Outside.{page_reading, StandsFor}
 
 abbrev pub CommitDoes : (old new : Disk) → List World → Session → (fits : List World → Type 0)
     → Result Reply Failed → Type 0
 CommitDoes old new ws session fits (Ok reply) =
-    Completes no_pages Stands old new ws (Some (CommitWork session)) (plain reply) fits
+    Completes page_reading StandsFor old new ws (Some (CommitWork session)) (plain reply) fits
 CommitDoes old new ws session fits (Err failed) =
-    Completes no_pages Stands old new ws (Some (CommitWork session)) (refused DeviceFailed) AreOff
+    Completes page_reading StandsFor old new ws (Some (CommitWork session)) (refused DeviceFailed)
+    AreOff

@@ -1,8 +1,8 @@
 -- What a kernel keeps, against the worlds that may be.
 --     IsWholeLog, Ready      the numbers of an open database fit each other
 --     creation_of, HasAllCommits      the name and the sizes, and that all commits stand in the log
---     IsAtWork, IsAtRest, AreOff, FitsWorlds      a kernel with an open database, and one with
---         none, against the worlds that may be
+--     IsAtWork, IsAtRest, AreOff, HasWorlds, FitsWorlds      a kernel with an open database, and
+--         one with none, against the worlds that may be
 --     Meets      the log of an open database is there
 --     answer_of, AreFew, AreKeyed, NextIs      the answer to a line with the rows of a scan, and
 --         how these are asked for
@@ -18,11 +18,13 @@ use Rattle.mdb_model.specs.declared.script.Command.TheVariants.{ScanTable}
 use Rattle.mdb_model.specs.declared.script.Next.{Next}
 use Rattle.mdb_model.specs.declared.script.Next.TheVariants.{Row, End, Fault}
 use Rattle.mdb_model.specs.declared.script.Reply.{Reply}
+use Rattle.mdb_model.specs.declared.script.Reply.TheVariants.{Refused}
 use Rattle.mdb_model.specs.declared.script.Refusal.{Refusal}
 use Rattle.mdb_model.specs.declared.fault.OpenFault.{OpenFault}
 use Rattle.mdb_model.specs.declared.fault.OpenFault.TheVariants.{Memory, Failed as OpenFailed, Damaged as OpenDamaged}
 use Rattle.mdb_model.specs.declared.script.Refusal.TheVariants.{Damaged, DeviceFailed, MemoryWanting}
 use Rattle.mdb_model.specs.Images.{Image}
+use Rattle.mdb_host.specs.Disk.{Disk}
 use Rattle.mdb_model.specs.Tables.{Tables, with_commits}
 use Rattle.mdb_model.specs.Answers.{Answer, plain}
 use Rattle.mdb_model.specs.Steps.{rows_of}
@@ -90,9 +92,15 @@ pub record FitsOpen (database : Database) (ws : List World) : Type 0 where
 abbrev pub AreOff : List World → Type 0
 AreOff ws = All (λ w. off w ≡ w) ws
 
-abbrev pub FitsWorlds : Option Database → List World → Type 0
-FitsWorlds None ws = AreOff ws
-FitsWorlds (Some database) ws = FitsOpen database ws
+-- what is kept in memory fits these worlds
+abbrev pub HasWorlds : Option Database → List World → Type 0
+HasWorlds None ws = AreOff ws
+HasWorlds (Some database) ws = FitsOpen database ws
+
+-- a kernel fits these worlds, with what the devices hold. While rows are in memory it does not go
+-- by the devices
+unfoldable pub FitsWorlds : Option Database → Disk → List World → Type 0
+FitsWorlds database disk ws = HasWorlds database ws
 
 abbrev pub Meets : Option Database → Image → Type 0
 Meets None image = Unit {0}
@@ -114,7 +122,7 @@ answer_of _ database reply = plain reply
 -- a scan has few rows enough to be counted
 abbrev pub AreFew : Command → Option Database → Type 0
 AreFew (ScanTable session table) database =
-    length (rows_of (scanned_rows database session) table.0) < 2 ^ 64
+    length (rows_of (scanned_rows database session) table.0) + 1 < 2 ^ 64
 AreFew _ database = Unit {0}
 
 -- no row that the session sees has an empty key, so a scan may begin at it
@@ -122,13 +130,13 @@ abbrev pub AreKeyed : Command → Option Database → Type 0
 AreKeyed (ScanTable session table) database = HasKeys (scanned_rows database session)
 AreKeyed _ database = Unit {0}
 
--- the next row of a scan, or its end; a fault only where no database is open
+-- the next row of a scan, or its end; over rows that are known only a device may fail
 abbrev pub NextIs : Option Database → Session → Table → (after key value : List ℕ) → Next → Type 0
 NextIs database session table after key value Row =
     next_row (scanned_rows database session) table.0 after ≡ Some (key, value)
 NextIs database session table after key value End =
     next_row (scanned_rows database session) table.0 after ≡ None
-NextIs database session table after key value (Fault reply) = database ≡ None
+NextIs database session table after key value (Fault reply) = reply ≡ Refused DeviceFailed
 
 -- Opening
 

@@ -1,3 +1,4 @@
+pub mod Outside
 pub mod Rows
 pub mod Redo
 pub mod Stretch
@@ -11,3 +12,4 @@ pub mod Access
 pub mod Starting
 pub mod Refusing
 pub mod Taking
+pub mod Scanning

@@ -3,13 +3,22 @@
 --         Offline
 --     MayBe      what a stop before or in a line may leave
 --     Does, Completes      a line was done, and nothing is said yet; to worlds that fit
+--     IsStill      time went on and the devices stayed, as where a text is said
 use Rattle.std.specs.Prelude.{◌≡◌, ◌⊎◌, ℕ, ◌≤◌, List, Contains}
 use Rattle.mdb_model.specs.Images.{Image}
 use Rattle.mdb_model.specs.Pages.{PageReading}
 use Rattle.mdb_model.specs.Worlds.{World, off}
 use Rattle.mdb_model.specs.Answers.{Answer}
 use Rattle.mdb_model.specs.Runs.{Line, Entry, AreOutcomes}
-use Rattle.mdb_host.specs.Disk.{Disk, Keeps}
+use Rattle.mdb_host.specs.Disk.{Disk, Keeps, Agree}
+use Rattle.db_kernel.specs.Damages.{EachLeft}
+use Rattle.db_kernel.specs.Outside.{Ties}
+
+-- the devices are as they were, and a crash now leaves what one at old could have left
+pub record IsStill (old new : Disk) : Type 0 where
+  pub keeps : Keeps old new
+  pub seen : Agree old.seen new.seen
+  pub left : (image : Image) → new.may_leave new.now image → old.may_leave old.now image
 
 module _ (reading : PageReading) (stands : Image → World → Type 0) where
   abbrev pub LeavesOnly : Disk → List World → Type 0
@@ -33,6 +42,9 @@ module _ (reading : PageReading) (stands : Image → World → Type 0) where
     pub stop : (t : ℕ) (image : Image) → old.now ≤ t → t ≤ new.now → new.may_leave t image
         → (v : World) × stands image v × MayBe ws line v
     pub stand : LeavesOnly new after
+    -- each image that is left once it was done is tied as the line ties it
+    pub ties : (w w' : World) → Contains ws w → Contains after w'
+        → EachLeft new (Ties line answer.reply w w')
 
   pub record Completes (old new : Disk) (ws : List World) (line : Line) (answer : Answer)
       (fits : List World → Type 0) : Type 0 where

@@ -11,8 +11,8 @@ use Rattle.mdb_model.specs.Images.{Image}
 use Rattle.mdb_model.specs.Worlds.{World, off, Transaction}
 use Rattle.mdb_model.specs.Answers.{Answer}
 use Rattle.mdb_model.specs.Runs.{Line, Entry}
-use Rattle.standing.specs.Standing.{Creation, Stands, at_rest}
-use Rattle.session_rows.specs.Serving.{no_pages}
+use Rattle.standing.specs.Standing.{Creation, at_rest}
+use Rattle.db_kernel.specs.Outside.{page_reading, StandsFor}
 
 -- a world in Online, with the transactions of its sessions
 abbrev pub working : Creation → List Commit → FinMap nat_cmp Transaction → World
@@ -25,12 +25,12 @@ in_admin made commits = record (at_rest made commits) { state = Admin }
 
 -- one of these worlds is what the image stands for
 abbrev pub StandsForOneOf : List World → Image → Type 0
-StandsForOneOf ws image = (w : World) × Contains ws w × Stands image (off w)
+StandsForOneOf ws image = (w : World) × Contains ws w × StandsFor image (off w)
 
 -- a line that calls no device: an entry, to worlds that fit and that the same images stand for
 pub record Moves (ws : List World) (line : Line) (answer : Answer) (fits : List World → Type 0)
     : Type 0 where
   pub after : List World
-  pub entry : Entry no_pages ws line answer after
+  pub entry : Entry page_reading ws line answer after
   pub fit : fits after
   pub kept : (image : Image) → StandsForOneOf ws image → StandsForOneOf after image

@@ -29,10 +29,9 @@ ghost use Rattle.db_kernel.specs.Refusing.{KeepsDatabase};
 ghost use Rattle.session_rows.specs.Replies.{scan_answer};
 ghost use Rattle.session_rows.specs.Scan.{seen_rows};
 ghost use Rattle.session_rows.specs.Serving.{HasKeys};
-ghost use Rattle.standing.specs.Standing.{Stands};
 ghost use Rattle.db_kernel.specs.Stretch.{LeavesOnly};
-ghost use Rattle.session_rows.specs.Serving.{no_pages};
 ghost use Rattle.db_kernel.specs.Working.{Moves};
+ghost use Rattle.db_kernel.specs.Outside.{page_reading, StandsFor};
 
 use crate::rows::MemRows;
 use mdb_bytes::{GroupBuf, encode_group};
@@ -149,7 +148,7 @@ impl Database {
         ensures keyed { (ws : List World) → FitsOpen self.old ws
             → HasKeys (seen_rows self.new.rows.rows self.new.transactions session.0) }
         ensures few { length (rows_of (seen_rows self.new.rows.rows self.new.transactions session.0)
-            table.0) < 2 ^ 64 }
+            table.0) + 1 < 2 ^ 64 }
         ensures inside { IsInside result }
         ensures refused { IsRefusal result → KeepsDatabase self.old self.new }
     {
@@ -172,7 +171,7 @@ impl Database {
         ensures ring { H.tells → HasRing self.old.ring.size (H.disk host.new).seen }
         ensures keeps { H.tells → Keeps (H.disk host.old) (H.disk host.new) }
         ensures does { H.tells → (ws : List World) → FitsOpen self.old ws
-            → LeavesOnly no_pages Stands (H.disk host.old) ws
+            → LeavesOnly page_reading StandsFor (H.disk host.old) ws
             → CommitDoes (H.disk host.old) (H.disk host.new) ws session (FitsOpen self.new) result }
         ensures cause { HasCause (H.faults host.old) (H.faults host.new) result }
         ensures inside { IfOk result IsInside }
@@ -279,7 +278,7 @@ impl Database {
         ensures keyed { (ws : List World) → IsAtWork self.old ws
             → HasKeys (seen_rows self.new.rows.rows self.new.transactions session.0) }
         ensures few { length (rows_of (seen_rows self.new.rows.rows self.new.transactions session.0)
-            table.0) < 2 ^ 64 }
+            table.0) + 1 < 2 ^ 64 }
         ensures inside { IsInside result }
         ensures refused { IsRefusal result → KeepsDatabase self.old self.new }
     {
@@ -336,7 +335,7 @@ impl Database {
         ensures keeps { H.tells → Keeps (H.disk host.old) (H.disk host.new) }
         ensures does { H.tells → (ws : List World) → HasAllCommits self.old.ring
             → IsAtWork self.old ws
-            → LeavesOnly no_pages Stands (H.disk host.old) ws
+            → LeavesOnly page_reading StandsFor (H.disk host.old) ws
             → CommitDoes (H.disk host.old) (H.disk host.new) ws session (IsAtWork self.new) result }
         ensures cause { HasCause (H.faults host.old) (H.faults host.new) result }
         ensures inside { IfOk result IsInside }

@@ -9,15 +9,15 @@ ghost use Rattle.mdb_model.specs.Worlds.{World};
 ghost use Rattle.mdb_host.specs.Disk.{Disk};
 ghost use Rattle.mdb_bytes.specs.Groups.{change_fits};
 ghost use Rattle.db_kernel.specs.Damages.{IsInside};
-ghost use Rattle.db_kernel.specs.Refusing.{IsAsBefore, RefusalLeaves};
-ghost use Rattle.db_kernel.specs.Kept.{Ready, Meets, FitsWorlds, answer_of, scanned_rows, AreFew, AreKeyed, NextIs};
+ghost use Rattle.db_kernel.specs.Refusing.{RefusalLeaves};
+ghost use Rattle.db_kernel.specs.Kept.{Ready, Meets, FitsWorlds, HasWorlds, answer_of, scanned_rows, AreFew, AreKeyed};
+ghost use Rattle.db_kernel.specs.Scanning.{TakesRow, ReadsRow};
 ghost use Rattle.session_rows.specs.Replies.{scan_answer};
 ghost use Rattle.db_kernel.specs.Access.{opens, opened_reply, state_of};
-ghost use Rattle.standing.specs.Standing.{Stands};
 ghost use Rattle.db_kernel.specs.Taking.{TakesLine};
 ghost use Rattle.db_kernel.specs.Stretch.{LeavesOnly, Completes};
-ghost use Rattle.session_rows.specs.Serving.{no_pages};
 ghost use Rattle.db_kernel.specs.Working.{Moves};
+ghost use Rattle.db_kernel.specs.Outside.{page_reading, StandsFor};
 
 use crate::database::{Access, Database};
 use crate::opening::open_database;
@@ -60,18 +60,24 @@ impl Kernel {
 
     /// Takes a line and answers it. The rows of a scan are asked for by `scan_next` once it is
     /// open.
+    #[tactic(auto, unfolding(crate::specs::Kept::FitsWorlds))]
     pub fn command<H: Host>(&mut self, host: &mut H, line: &Command) -> Reply
         requires range { IsTrue (is_in_range line.now) }
         requires ready { Ready self.old.database }
         requires meets { H.tells → Meets self.old.database (H.disk host.old).seen }
         ensures takes { TakesLine H.tells (H.disk host.old) (H.disk host.new) (H.faults host.old)
             (H.faults host.new) self.old.database self.new.database line.now result }
-        ensures does { H.tells → (ws : List World) → FitsWorlds self.old.database ws
-            → LeavesOnly no_pages Stands (H.disk host.old) ws
-            → Completes no_pages Stands (H.disk host.old) (H.disk host.new) ws (Some line.now)
-            (answer_of line.now self.new.database result) (FitsWorlds self.new.database) }
-        ensures few { AreFew line.now self.new.database }
-        ensures keyed { H.tells → (ws : List World) → FitsWorlds self.old.database ws
+        ensures does { H.tells → (ws : List World)
+            → FitsWorlds self.old.database (H.disk host.old) ws
+            → LeavesOnly page_reading StandsFor (H.disk host.old) ws
+            → Completes page_reading StandsFor (H.disk host.old) (H.disk host.new) ws
+            (Some line.now) (answer_of line.now self.new.database result)
+            (FitsWorlds self.new.database (H.disk host.new)) }
+        ensures few { H.tells → (ws : List World)
+            → FitsWorlds self.old.database (H.disk host.old) ws
+            → AreFew line.now self.new.database }
+        ensures keyed { H.tells → (ws : List World)
+            → FitsWorlds self.old.database (H.disk host.old) ws
             → AreKeyed line.now self.new.database }
         ensures say_faults { H.say_faults host.new ≡ H.say_faults host.old }
     {
@@ -105,10 +111,11 @@ impl Kernel {
         }
     }
 
-    /// The next row of a scan that is open: the first one behind a key, which is empty at its
-    /// start.
-    pub fn scan_next(
+    /// The next row of a scan that is open: the first one after a key, which is empty at its
+    /// start. A row that is read may call a device; after a fault the kernel is off.
+    pub fn scan_next<H: Host>(
         &mut self,
+        host: &mut H,
         session: Session,
         table: Table,
         after: &KeyBuf,
@@ -117,12 +124,21 @@ impl Kernel {
     ) -> Next
         requires session { IsTrue (is_session session.0) }
         requires table { IsTrue (is_table table.0) }
-        ensures next { NextIs self.old.database session table after.now.items key.new.items
-            value.new.items result }
-        ensures same { IsAsBefore self.old.database self.new.database }
+        requires ready { Ready self.old.database }
+        requires meets { H.tells → Meets self.old.database (H.disk host.old).seen }
+        ensures takes { TakesRow H.tells (H.disk host.old) (H.disk host.new) (H.faults host.old)
+            (H.faults host.new) self.new.database result }
+        ensures reads { H.tells → (ws : List World)
+            → FitsWorlds self.old.database (H.disk host.old) ws
+            → LeavesOnly page_reading StandsFor (H.disk host.old) ws
+            → ReadsRow (H.disk host.old) (H.disk host.new) ws self.old.database self.new.database
+            session table after.now.items key.new.items value.new.items result }
+        ensures say_faults { H.say_faults host.new ≡ H.say_faults host.old }
     {
+        // Rows in memory call no device.
+        let _host = host;
         let Some(database) = &mut self.database else {
-            return Next::Fault(Reply::Refused(Refusal::WrongState(State::Offline)));
+            return Next::End;
         };
         if database.scan_next(session, table, after, key, value) {
             Next::Row
@@ -139,9 +155,9 @@ impl Kernel {
         ensures ready { Ready self.new.database }
         ensures meets { (image : Image) → Meets self.old.database image
             → Meets self.new.database image }
-        ensures moves { (ws : List World) → FitsWorlds self.old.database ws
+        ensures moves { (ws : List World) → HasWorlds self.old.database ws
             → Moves ws (Some (GetRow session table key.now)) (plain result)
-            (FitsWorlds self.new.database) }
+            (HasWorlds self.new.database) }
         ensures inside { IsInside result }
         ensures refused { RefusalLeaves self.old.database self.new.database result }
     {
@@ -158,9 +174,9 @@ impl Kernel {
         ensures ready { Ready self.new.database }
         ensures meets { (image : Image) → Meets self.old.database image
             → Meets self.new.database image }
-        ensures moves { (ws : List World) → FitsWorlds self.old.database ws
+        ensures moves { (ws : List World) → HasWorlds self.old.database ws
             → Moves ws (Some (PutRow session table key.now value.now)) (plain result)
-            (FitsWorlds self.new.database) }
+            (HasWorlds self.new.database) }
         ensures inside { IsInside result }
         ensures refused { RefusalLeaves self.old.database self.new.database result }
     {
@@ -177,9 +193,9 @@ impl Kernel {
         ensures ready { Ready self.new.database }
         ensures meets { (image : Image) → Meets self.old.database image
             → Meets self.new.database image }
-        ensures moves { (ws : List World) → FitsWorlds self.old.database ws
+        ensures moves { (ws : List World) → HasWorlds self.old.database ws
             → Moves ws (Some (DelRow session table key.now)) (plain result)
-            (FitsWorlds self.new.database) }
+            (HasWorlds self.new.database) }
         ensures inside { IsInside result }
         ensures refused { RefusalLeaves self.old.database self.new.database result }
     {
@@ -195,12 +211,12 @@ impl Kernel {
         ensures ready { Ready self.new.database }
         ensures meets { (image : Image) → Meets self.old.database image
             → Meets self.new.database image }
-        ensures moves { (ws : List World) → FitsWorlds self.old.database ws
+        ensures moves { (ws : List World) → HasWorlds self.old.database ws
             → Moves ws (Some (ScanTable session table))
             (scan_answer (scanned_rows self.new.database session) table result)
-            (FitsWorlds self.new.database) }
+            (HasWorlds self.new.database) }
         ensures few { AreFew (ScanTable session table) self.new.database }
-        ensures keyed { (ws : List World) → FitsWorlds self.old.database ws
+        ensures keyed { (ws : List World) → HasWorlds self.old.database ws
             → AreKeyed (ScanTable session table) self.new.database }
         ensures inside { IsInside result }
         ensures refused { RefusalLeaves self.old.database self.new.database result }
@@ -217,8 +233,8 @@ impl Kernel {
         ensures ready { Ready self.new.database }
         ensures meets { (image : Image) → Meets self.old.database image
             → Meets self.new.database image }
-        ensures moves { (ws : List World) → FitsWorlds self.old.database ws
-            → Moves ws (Some (RollbackWork session)) (plain result) (FitsWorlds self.new.database) }
+        ensures moves { (ws : List World) → HasWorlds self.old.database ws
+            → Moves ws (Some (RollbackWork session)) (plain result) (HasWorlds self.new.database) }
         ensures inside { IsInside result }
         ensures refused { RefusalLeaves self.old.database self.new.database result }
     {
@@ -230,8 +246,8 @@ impl Kernel {
 
     fn kill(&mut self) -> Reply
         ensures off { self.new.database ≡ None }
-        ensures moves { (ws : List World) → FitsWorlds self.old.database ws
-            → Moves ws (Some Kill) (plain result) (FitsWorlds self.new.database) }
+        ensures moves { (ws : List World) → HasWorlds self.old.database ws
+            → Moves ws (Some Kill) (plain result) (HasWorlds self.new.database) }
         ensures inside { IsInside result }
         ensures refused { RefusalLeaves self.old.database self.new.database result }
     {
@@ -239,16 +255,19 @@ impl Kernel {
         Reply::OfflineNow
     }
 
+    #[tactic(auto, unfolding(crate::specs::Kept::FitsWorlds))]
     fn commit<H: Host>(&mut self, host: &mut H, session: Session) -> Reply
         requires session { IsTrue (is_session session.0) }
         requires ready { Ready self.old.database }
         requires meets { H.tells → Meets self.old.database (H.disk host.old).seen }
         ensures takes { TakesLine H.tells (H.disk host.old) (H.disk host.new) (H.faults host.old)
             (H.faults host.new) self.old.database self.new.database (CommitWork session) result }
-        ensures does { H.tells → (ws : List World) → FitsWorlds self.old.database ws
-            → LeavesOnly no_pages Stands (H.disk host.old) ws
-            → Completes no_pages Stands (H.disk host.old) (H.disk host.new) ws
-            (Some (CommitWork session)) (plain result) (FitsWorlds self.new.database) }
+        ensures does { H.tells → (ws : List World)
+            → FitsWorlds self.old.database (H.disk host.old) ws
+            → LeavesOnly page_reading StandsFor (H.disk host.old) ws
+            → Completes page_reading StandsFor (H.disk host.old) (H.disk host.new) ws
+            (Some (CommitWork session)) (plain result)
+            (FitsWorlds self.new.database (H.disk host.new)) }
         ensures say_faults { H.say_faults host.new ≡ H.say_faults host.old }
     {
         let Some(database) = &mut self.database else {
@@ -264,15 +283,17 @@ impl Kernel {
     }
 
     // Lets the administrator in: opens the database, or dismisses the sessions.
+    #[tactic(auto, unfolding(crate::specs::Kept::FitsWorlds))]
     fn go_admin<H: Host>(&mut self, host: &mut H) -> Reply
         requires ready { Ready self.old.database }
         requires meets { H.tells → Meets self.old.database (H.disk host.old).seen }
         ensures takes { TakesLine H.tells (H.disk host.old) (H.disk host.new) (H.faults host.old)
             (H.faults host.new) self.old.database self.new.database DbAdmin result }
-        ensures does { H.tells → (ws : List World) → FitsWorlds self.old.database ws
-            → LeavesOnly no_pages Stands (H.disk host.old) ws
-            → Completes no_pages Stands (H.disk host.old) (H.disk host.new) ws (Some DbAdmin)
-            (plain result) (FitsWorlds self.new.database) }
+        ensures does { H.tells → (ws : List World)
+            → FitsWorlds self.old.database (H.disk host.old) ws
+            → LeavesOnly page_reading StandsFor (H.disk host.old) ws
+            → Completes page_reading StandsFor (H.disk host.old) (H.disk host.new) ws
+            (Some DbAdmin) (plain result) (FitsWorlds self.new.database (H.disk host.new)) }
         ensures say_faults { H.say_faults host.new ≡ H.say_faults host.old }
     {
         let alloc = self.alloc;
@@ -283,15 +304,17 @@ impl Kernel {
     }
 
     // Lets the sessions in: opens the database, or ends the administrator's work.
+    #[tactic(auto, unfolding(crate::specs::Kept::FitsWorlds))]
     fn go_online<H: Host>(&mut self, host: &mut H) -> Reply
         requires ready { Ready self.old.database }
         requires meets { H.tells → Meets self.old.database (H.disk host.old).seen }
         ensures takes { TakesLine H.tells (H.disk host.old) (H.disk host.new) (H.faults host.old)
             (H.faults host.new) self.old.database self.new.database DbOnline result }
-        ensures does { H.tells → (ws : List World) → FitsWorlds self.old.database ws
-            → LeavesOnly no_pages Stands (H.disk host.old) ws
-            → Completes no_pages Stands (H.disk host.old) (H.disk host.new) ws (Some DbOnline)
-            (plain result) (FitsWorlds self.new.database) }
+        ensures does { H.tells → (ws : List World)
+            → FitsWorlds self.old.database (H.disk host.old) ws
+            → LeavesOnly page_reading StandsFor (H.disk host.old) ws
+            → Completes page_reading StandsFor (H.disk host.old) (H.disk host.new) ws
+            (Some DbOnline) (plain result) (FitsWorlds self.new.database (H.disk host.new)) }
         ensures say_faults { H.say_faults host.new ≡ H.say_faults host.old }
     {
         match &mut self.database {
@@ -301,14 +324,15 @@ impl Kernel {
     }
 
     // Opens the database.
+    #[tactic(auto, unfolding(crate::specs::Kept::FitsWorlds))]
     fn restart<H: Host>(&mut self, host: &mut H, access: Access) -> Reply
         requires off { self.old.database ≡ None }
         ensures takes { TakesLine H.tells (H.disk host.old) (H.disk host.new) (H.faults host.old)
             (H.faults host.new) self.old.database self.new.database (opens access) result }
-        ensures does { H.tells → (ws : List World) → FitsWorlds None ws
-            → LeavesOnly no_pages Stands (H.disk host.old) ws
-            → Completes no_pages Stands (H.disk host.old) (H.disk host.new) ws (Some (opens access))
-            (plain result) (FitsWorlds self.new.database) }
+        ensures does { H.tells → (ws : List World) → FitsWorlds None (H.disk host.old) ws
+            → LeavesOnly page_reading StandsFor (H.disk host.old) ws
+            → Completes page_reading StandsFor (H.disk host.old) (H.disk host.new) ws
+            (Some (opens access)) (plain result) (FitsWorlds self.new.database (H.disk host.new)) }
         ensures say_faults { H.say_faults host.new ≡ H.say_faults host.old }
     {
         match open_database(self.alloc, host, access) {
@@ -323,8 +347,8 @@ impl Kernel {
 
     fn go_offline(&mut self) -> Reply
         ensures off { self.new.database ≡ None }
-        ensures moves { (ws : List World) → FitsWorlds self.old.database ws
-            → Moves ws (Some DbOffline) (plain result) (FitsWorlds self.new.database) }
+        ensures moves { (ws : List World) → HasWorlds self.old.database ws
+            → Moves ws (Some DbOffline) (plain result) (HasWorlds self.new.database) }
         ensures inside { IsInside result }
         ensures refused { RefusalLeaves self.old.database self.new.database result }
     {

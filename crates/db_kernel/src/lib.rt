@@ -3,6 +3,7 @@
 
 pub mod database;
 pub mod kernel;
+mod laws;
 pub mod opening;
 mod records;
 mod redo;
@@ -10,4 +11,5 @@ pub mod rows;
 mod starting;
 
 pub use creation::{CreateFault, create};
+pub use laws::{off_as_the_worlds_are, saying_keeps_the_fit, these_tie_nothing};
 pub use starting::each_image_is_a_start;

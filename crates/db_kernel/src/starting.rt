@@ -4,9 +4,8 @@ ghost use Rattle.mdb_model.specs.Headline.{CanStart};
 ghost use Rattle.mdb_model.specs.Images.{Image};
 ghost use Rattle.mdb_model.specs.Worlds.{World};
 ghost use Rattle.mdb_host.specs.Disk.{Disk};
-ghost use Rattle.standing.specs.Standing.{Stands};
 ghost use Rattle.db_kernel.specs.Starting.{own_age};
-ghost use Rattle.session_rows.specs.Serving.{no_pages};
+ghost use Rattle.db_kernel.specs.Outside.{page_reading, StandsFor};
 
 use mdb_host::Host;
 
@@ -16,8 +15,8 @@ use mdb_host::Host;
 /// call does.
 pub fn each_image_is_a_start<H: Host>(host: &H)
     ensures { H.tells → (w : World) → ((image : Image)
-        → (H.disk host.now).may_leave (H.disk host.now).now image → Stands image w)
-        → CanStart no_pages (H.disk host.now).said (H.disk host.now).may_leave Stands
+        → (H.disk host.now).may_leave (H.disk host.now).now image → StandsFor image w)
+        → CanStart page_reading (H.disk host.now).said (H.disk host.now).may_leave StandsFor
         (H.disk host.now).now ((w, own_age w) ∷ []) }
 {
     let _host = host;

@@ -8,19 +8,19 @@ use Rattle.mdb_model.specs.declared.script.Refusal.TheVariants.{Syntax, MemoryWa
 use Rattle.mdb_model.specs.Answers.{refused}
 use Rattle.mdb_model.specs.Runs.{Step, Stepped, Starved, may_want_memory}
 use Rattle.mdb_model.specs.Worlds.{World}
-use Rattle.standing.specs.Standing.{Stands}
 use Rattle.dbm_script.specs.Reading.{takes_bytes}
 use Rattle.db_kernel.specs.Stretch.{LeavesOnly, Completes}
-use Rattle.session_rows.specs.Serving.{no_pages}
-use Rattle.db_kernel.proofs.Moving.{completes, moves_none}
+use Rattle.db_kernel.proofs.Fitting.{stays_refused}
+use Rattle.db_kernel.proofs.Untied.{syntax_untied, starved_untied}
+use Rattle.db_kernel.specs.Outside.{page_reading, StandsFor}
 
-all_syntax : (ws : List World) → AllZip (λ w w'. Step no_pages w None (refused Syntax) w') ws ws
+all_syntax : (ws : List World) → AllZip (λ w w'. Step page_reading w None (refused Syntax) w') ws ws
 all_syntax [] = tt
 all_syntax (w ∷ ws) = ((refl, refl), all_syntax ws)
 
 -- a line that spells no command changes nothing
-pub syntax_answered : (disk : Disk) (ws : List World) (fits : List World → Type 0) → fits ws → LeavesOnly no_pages Stands disk ws → Completes no_pages Stands disk disk ws None (refused Syntax) fits
-syntax_answered disk ws fits fit stand = completes disk ws None (refused Syntax) fits (moves_none ws None (refused Syntax) fits (Stepped (all_syntax ws)) fit) stand
+pub syntax_answered : (disk : Disk) (ws : List World) (fits : List World → Type 0) → fits ws → LeavesOnly page_reading StandsFor disk ws → Completes page_reading StandsFor disk disk ws None (refused Syntax) fits
+syntax_answered disk ws fits fit stand = stays_refused disk ws None (refused Syntax) fits (syntax_untied None) (Stepped (all_syntax ws)) fit stand
 
 wants : (command : Command) → IsTrue (takes_bytes command) → (w : World) → IsTrue (may_want_memory w (Some command))
 wants (GetRow session table key) takes w = refl
@@ -55,7 +55,7 @@ all_starve command takes [] = tt
 all_starve command takes (w ∷ ws) = ((wants command takes w, refl), all_starve command takes ws)
 
 -- memory ran out for the bytes of a line
-pub starved_answered : (disk : Disk) (ws : List World) (command : Command) → IsTrue (takes_bytes command) → (fits : List World → Type 0) → fits ws → LeavesOnly no_pages Stands disk ws
-    → Completes no_pages Stands disk disk ws (Some command) (refused MemoryWanting) fits
+pub starved_answered : (disk : Disk) (ws : List World) (command : Command) → IsTrue (takes_bytes command) → (fits : List World → Type 0) → fits ws → LeavesOnly page_reading StandsFor disk ws
+    → Completes page_reading StandsFor disk disk ws (Some command) (refused MemoryWanting) fits
 starved_answered disk ws command takes fits fit stand =
-    completes disk ws (Some command) (refused MemoryWanting) fits (moves_none ws (Some command) (refused MemoryWanting) fits (Starved (all_starve command takes ws)) fit) stand
+    stays_refused disk ws (Some command) (refused MemoryWanting) fits (starved_untied (Some command)) (Starved (all_starve command takes ws)) fit stand

@@ -5,11 +5,10 @@ use Rattle.std.proofs.Common.{◌≡◌, subst, ℕ, List, Option, Some}
 use Rattle.mdb_model.specs.declared.status.Status.TheVariants.{Memory}
 use Rattle.mdb_model.specs.Script.{Asked as Request, Create}
 use Rattle.mdb_host.specs.Disk.{Disk}
-use Rattle.standing.specs.Standing.{Stands}
-use Rattle.session_rows.specs.Serving.{no_pages}
 use Rattle.script_run.specs.Calls.{RunPromise}
 use Rattle.script_run.proofs.Progressing.{ends_memory}
 use Rattle.script_run.proofs.Turns.{start_serial, start_stand}
+use Rattle.db_kernel.specs.Outside.{page_reading, StandsFor}
 
 -- what is so of the numbers that were read is so of those that are asked for
 pub created_with : (P : ℕ → ℕ → List ℕ → Type 0) (request : Option Request) (birth log_pages : ℕ) (volumes : List ℕ) (b l : ℕ) (v : List ℕ)
@@ -25,4 +24,4 @@ created_with P request birth log_pages volumes b l v read asked p =
 
 pub memory_keeps : (d : Disk) (faults : ℕ) (told : Option (List ℕ)) → RunPromise d d faults faults Memory told told
 memory_keeps d faults told from can =
-    ends_memory from (start_serial no_pages Stands d from can) d faults told (start_stand no_pages Stands d from can)
+    ends_memory from (start_serial page_reading StandsFor d from can) d faults told (start_stand page_reading StandsFor d from can)

@@ -20,7 +20,6 @@ use Rattle.mdb_host.specs.Disk.{Disk, Keeps}
 use Rattle.db_kernel.specs.Damages.{EachLeft, past_end_in}
 use Rattle.db_kernel.specs.Stretch.{Does}
 use Rattle.script_run.specs.Along.{instant, HasCauses}
-use Rattle.script_run.specs.Speaking.{Speaks}
 
 rose_since : (a b c : ℕ) → a ≤ b → Rose b c → Rose a c
 rose_since a b c le rose = omega (arith, le, rose)
@@ -94,7 +93,7 @@ module _ (reading : PageReading) (stands : Image → World → Type 0) where
       )
 
   -- once the reply is said, or a part of it
-  module _ (d0 d1 d2 : Disk) (f0 f1 f2 : ℕ) (ws : List World) (line : Line) (answer : Answer) (after : List World) (does : Does reading stands d0 d1 ws line answer after) (speaks : Speaks d1 d2 (text_of answer))
+  module _ (d0 d1 d2 : Disk) (f0 f1 f2 : ℕ) (ws : List World) (line : Line) (answer : Answer) (after : List World) (does : Does reading stands d0 d1 ws line answer after) (goes_on : Keeps d1 d2)
       (causes : LineCauses d1 f0 f1 ws line answer.reply) (counted : f1 ≤ f2) where
     upto_now : (t : ℕ) → d1.now ≤ t → t ≤ d1.now → t ≡ d1.now
     upto_now t from upto = omega (arith, from, upto)
@@ -107,11 +106,11 @@ module _ (reading : PageReading) (stands : Image → World → Type 0) where
         until_clock = omega arith;
         counted = causes.counted;
         quiet = λ t from upto.
-            speaks.keeps.said t upto ∙ does.quiet t (omega (arith, from, does.keeps.later)) upto;
+            goes_on.said t upto ∙ does.quiet t (omega (arith, from, does.keeps.later)) upto;
         device = causes.device;
-        past = λ is image left. causes.past is image (speaks.keeps.no_more d1.now image (omega arith) left);
-        in_reach = λ reads opened image left. causes.in_reach reads opened image (speaks.keeps.no_more d1.now image (omega arith) left);
+        past = λ is image left. causes.past is image (goes_on.no_more d1.now image (omega arith) left);
+        in_reach = λ reads opened image left. causes.in_reach reads opened image (goes_on.no_more d1.now image (omega arith) left);
       };
-      within = speaks.keeps.later;
+      within = goes_on.later;
       counted = counted;
     }

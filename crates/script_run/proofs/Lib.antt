@@ -9,4 +9,7 @@ pub mod Progressing
 pub mod Answering
 pub mod Calls
 pub mod AfterCrash
-pub mod ScanRows
+pub mod Texts
+pub mod Tying
+pub mod ScanLines
+pub mod NextSaid

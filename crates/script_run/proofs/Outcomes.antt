@@ -2,10 +2,9 @@
 --     on_err, on_err-more, caused_on, caused_err      a failure and its cause
 --     does_line      a line whose answer was said, or not to its end
 --     turned_err      a failure in a line
---     kernel_is_off, command_causes, refused_causes      the causes of a line
+--     command_causes, refused_causes      the causes of a line
 --     other_scan, other_command      only an open scan is answered by rows
-use Rattle.std.proofs.Common.{◌≡◌, refl, sym, subst, ap, ◌∙◌, ℕ, ◌≤◌, Bool, true, false, List, [], ◌∷◌, ◌++◌, All, Option, Some, None, Result, Ok, Err, IsErr, OnOk, OnErr, arith}
-use Rattle.std.proofs.lemmas.List.Elements.{All-head}
+use Rattle.std.proofs.Common.{◌≡◌, refl, sym, subst, ap, ◌∙◌, ℕ, ◌≤◌, Bool, true, false, List, ◌++◌, Option, Some, None, Result, Ok, Err, IsErr, OnOk, OnErr, arith}
 use Rattle.mdb_model.specs.declared.fault.Failed.{Failed as Fault}
 use Rattle.mdb_model.specs.declared.name.Session.{Session}
 use Rattle.mdb_model.specs.declared.name.Table.{Table}
@@ -17,7 +16,6 @@ use Rattle.mdb_model.specs.declared.script.Reply.{Reply}
 use Rattle.mdb_model.specs.declared.script.Reply.TheVariants.{Found, NoRow, PutDone, DelDone, ScanOpen, Committed, NothingToCommit, RolledBack, AdminAt, OnlineAt, OfflineNow, StateIs, SavepointDone, TaskBegun, Running, PagesSaved, LogSaved, MediumMade, MediumDeleted, MediaOpen, Recovered, SnapshotMade, SnapshotDropped, Reverted, InfoIs, Checked, Refused}
 use Rattle.mdb_model.specs.Answers.{Answer, plain}
 use Rattle.mdb_model.specs.Causes.{Rose, HasCause}
-use Rattle.mdb_model.specs.declared.name.State.TheVariants.{Offline}
 use Rattle.mdb_model.specs.Headline.{ReadsNumbers, IsOpenReply}
 use Rattle.mdb_model.specs.Images.{Image}
 use Rattle.mdb_model.specs.Runs.{Line}
@@ -25,20 +23,18 @@ use Rattle.mdb_model.specs.Script.{Reads, is_skipped}
 use Rattle.mdb_model.specs.Text.{text_of}
 use Rattle.mdb_model.specs.Worlds.{World}
 use Rattle.mdb_host.specs.Disk.{Disk}
-use Rattle.standing.specs.Standing.{Stands}
-use Rattle.db_kernel.specs.declared.database.Access.{Access}
-use Rattle.db_kernel.specs.declared.database.Access.TheVariants.{Admin, Online}
 use Rattle.db_kernel.specs.declared.database.Database.{Database}
 use Rattle.db_kernel.specs.Damages.{EachLeft, IsInReach, IsOpener, are_past_end, past_end_in}
-use Rattle.db_kernel.specs.Kept.{FitsWorlds, IsIn, creation_of, answer_of}
+use Rattle.db_kernel.specs.Kept.{FitsWorlds, answer_of}
 use Rattle.db_kernel.specs.Stretch.{Completes}
-use Rattle.session_rows.specs.Serving.{no_pages}
-use Rattle.db_kernel.specs.Working.{working, in_admin}
 use Rattle.script_run.specs.Along.{Taken}
 use Rattle.script_run.specs.Progress.{DoesLine, ReadsAs, HandlesLine}
-use Rattle.script_run.specs.Speaking.{Speaks}
+use Rattle.script_run.specs.Speaking.{Speaks, SaysWhile}
 use Rattle.script_run.proofs.Caused.{LineCauses}
-use Rattle.script_run.proofs.Takings.{line_taken, line_taken_whole}
+use Rattle.db_kernel.proofs.Fitting.{fits_still, is_off}
+use Rattle.script_run.proofs.Speaking.{says_of, still_of}
+use Rattle.script_run.proofs.Takings.{IsAfter, is_after, taken, taken_whole}
+use Rattle.db_kernel.specs.Outside.{page_reading, StandsFor}
 
 -- Failures
 
@@ -77,16 +73,22 @@ pub refused_same : (a b : Refusal) → Refused a ≡ Refused b → a ≡ b
 unfolding refusal_in
 refused_same a b is = ap refusal_in is
 
-pub does_line : (d0 d1 d2 : Disk) (f0 f1 f2 : ℕ) (ws : List World) (line : Line) (answer : Answer) (after : Option Database) → Completes no_pages Stands d0 d1 ws line answer (FitsWorlds after)
+pub does_line : (d0 d1 d2 : Disk) (f0 f1 f2 : ℕ) (ws : List World) (line : Line) (answer : Answer) (after : Option Database)
+    → Completes page_reading StandsFor d0 d1 ws line answer (FitsWorlds after d1)
     → LineCauses d1 f0 f1 ws line answer.reply → f2 ≡ f1 → Speaks d1 d2 (text_of answer) → (r : Result (Unit {0}) Fault) → OnOk r (d2.said d2.now ≡ d1.said d1.now ++ text_of answer)
     → DoesLine d0 d2 f0 f2 ws line after r
-does_line d0 d1 d2 f0 f1 f2 ws line answer after done causes same speaks (Ok unit) whole =
-    line_taken_whole no_pages Stands d0 d1 d2 f0 f1 f2 ws line answer (FitsWorlds after) done causes (omega (arith, same)) (text_of answer) refl speaks whole
-does_line d0 d1 d2 f0 f1 f2 ws line answer after done causes same speaks (Err fault) whole =
-    line_taken no_pages Stands d0 d1 d2 f0 f1 f2 ws line answer (FitsWorlds after) done causes (omega (arith, same)) (text_of answer) refl speaks
+does_line d0 d1 d2 f0 f1 f2 ws line answer after done causes same speaks r whole = by_result r whole where
+  says : SaysWhile d1 d2 (text_of answer) (IsAfter page_reading StandsFor ws line answer.reply done.after)
+  says = says_of (IsAfter page_reading StandsFor ws line answer.reply done.after) d1 d2 (text_of answer) speaks (is_after page_reading StandsFor d0 d1 ws line answer done.after done.does)
+
+  by_result : (r : Result (Unit {0}) Fault) → OnOk r (d2.said d2.now ≡ d1.said d1.now ++ text_of answer) → DoesLine d0 d2 f0 f2 ws line after r
+  by_result (Ok unit) whole =
+      taken_whole page_reading StandsFor d0 d1 d2 ws line answer done.after done.does says f0 f1 f2 causes (omega (arith, same)) (FitsWorlds after d2)
+      (fits_still after d1 d2 done.after done.fit (still_of d1 d2 (text_of answer) speaks)) whole
+  by_result (Err fault) whole = taken page_reading StandsFor d0 d1 d2 ws line answer done.after done.does says f0 f1 f2 causes (omega (arith, same))
 
 pub turned_err : (old new : Disk) (before now : ℕ) (ws : List World) (IsText : List ℕ → Type 0) (after : Option Database) (r : Result Bool Fault) → IsErr r
-    → (line : Line) × ReadsAs IsText line × Taken no_pages Stands old new before now ws line → HandlesLine old new before now ws IsText after r
+    → (line : Line) × ReadsAs IsText line × Taken page_reading StandsFor old new before now ws line → HandlesLine old new before now ws IsText after r
 turned_err old new before now ws IsText after (Ok answered) is taken = cc
 turned_err old new before now ws IsText after (Err fault) is taken = taken
 
@@ -97,63 +99,50 @@ reads_text text line answered reads other is =
 
 -- The causes of a line that the kernel took, as its contract tells them
 
--- one world that is not off, among worlds that are
-one_off : (ws : List World) (w : World) → ws ≡ w ∷ [] → (w.state ≡ Offline → ⊥) → All (λ v. v.state ≡ Offline) ws → ⊥
-one_off ws w is on all = on (All-head (λ v. v.state ≡ Offline) w [] (subst (λ (vs : List World). All (λ v. v.state ≡ Offline) vs) is all))
-
-in_off : (access : Access) (database : Database) (ws : List World) → IsIn access database ws → All (λ v. v.state ≡ Offline) ws → ⊥
-in_off Admin database ws at all = one_off ws (in_admin (creation_of database) at.commits) at.is (λ same. cc) all
-in_off Online database ws at all = one_off ws (working (creation_of database) at.commits at.sessions) at.is (λ same. cc) all
-
--- a kernel whose worlds are all off is off
-pub kernel_is_off : (database : Option Database) (ws : List World) → FitsWorlds database ws → All (λ v. v.state ≡ Offline) ws → database ≡ None
-kernel_is_off None ws fit all = refl
-kernel_is_off (Some database) ws fit all = absurd (in_off database.access database ws fit.at all)
-
 -- the lines that read numbers and are built open a database
-opener_of : (database : Option Database) (ws : List World) → FitsWorlds database ws → (command : Command) → ReadsNumbers ws (Some command) → (database ≡ None) × IsOpener command
-opener_of database ws fit DbAdmin reads = (kernel_is_off database ws fit reads, tt)
-opener_of database ws fit DbOnline reads = (kernel_is_off database ws fit reads, tt)
-opener_of database ws fit (Recover media log until) reads = absurd cc
-opener_of database ws fit (GetRow session table key) reads = absurd reads
-opener_of database ws fit (PutRow session table key value) reads = absurd reads
-opener_of database ws fit (DelRow session table key) reads = absurd reads
-opener_of database ws fit (ScanTable session table) reads = absurd reads
-opener_of database ws fit (CommitWork session) reads = absurd reads
-opener_of database ws fit (RollbackWork session) reads = absurd reads
-opener_of database ws fit DbOffline reads = absurd reads
-opener_of database ws fit DbState reads = absurd reads
-opener_of database ws fit Kill reads = absurd reads
-opener_of database ws fit MakeSavepoint reads = absurd reads
-opener_of database ws fit TaskSavepoint reads = absurd reads
-opener_of database ws fit (TaskBackup medium kind) reads = absurd reads
-opener_of database ws fit TurnSavepoint reads = absurd reads
-opener_of database ws fit TurnBackup reads = absurd reads
-opener_of database ws fit (MediumPut medium pages) reads = absurd reads
-opener_of database ws fit (MediumDelete medium) reads = absurd reads
-opener_of database ws fit MediumList reads = absurd reads
-opener_of database ws fit (BackupStart medium kind) reads = absurd reads
-opener_of database ws fit SnapshotCreate reads = absurd reads
-opener_of database ws fit (SnapshotDrop number) reads = absurd reads
-opener_of database ws fit (SnapshotRevert number) reads = absurd reads
-opener_of database ws fit Info reads = absurd reads
-opener_of database ws fit CheckData reads = absurd reads
+opener_of : (database : Option Database) (disk : Disk) (ws : List World) → FitsWorlds database disk ws → (command : Command) → ReadsNumbers ws (Some command) → (database ≡ None) × IsOpener command
+opener_of database disk ws fit DbAdmin reads = (is_off database disk ws fit reads, tt)
+opener_of database disk ws fit DbOnline reads = (is_off database disk ws fit reads, tt)
+opener_of database disk ws fit (Recover media log until) reads = absurd cc
+opener_of database disk ws fit (GetRow session table key) reads = absurd reads
+opener_of database disk ws fit (PutRow session table key value) reads = absurd reads
+opener_of database disk ws fit (DelRow session table key) reads = absurd reads
+opener_of database disk ws fit (ScanTable session table) reads = absurd reads
+opener_of database disk ws fit (CommitWork session) reads = absurd reads
+opener_of database disk ws fit (RollbackWork session) reads = absurd reads
+opener_of database disk ws fit DbOffline reads = absurd reads
+opener_of database disk ws fit DbState reads = absurd reads
+opener_of database disk ws fit Kill reads = absurd reads
+opener_of database disk ws fit MakeSavepoint reads = absurd reads
+opener_of database disk ws fit TaskSavepoint reads = absurd reads
+opener_of database disk ws fit (TaskBackup medium kind) reads = absurd reads
+opener_of database disk ws fit TurnSavepoint reads = absurd reads
+opener_of database disk ws fit TurnBackup reads = absurd reads
+opener_of database disk ws fit (MediumPut medium pages) reads = absurd reads
+opener_of database disk ws fit (MediumDelete medium) reads = absurd reads
+opener_of database disk ws fit MediumList reads = absurd reads
+opener_of database disk ws fit (BackupStart medium kind) reads = absurd reads
+opener_of database disk ws fit SnapshotCreate reads = absurd reads
+opener_of database disk ws fit (SnapshotDrop number) reads = absurd reads
+opener_of database disk ws fit (SnapshotRevert number) reads = absurd reads
+opener_of database disk ws fit Info reads = absurd reads
+opener_of database disk ws fit CheckData reads = absurd reads
 
 -- no number is past the end in an image that is in reach
 reach_ends : (line : Command) (image : Image) → IsInReach image → past_end_in line image ≡ false
 reach_ends line image reach = (λ i. are_past_end (reach.has_restart i) (reach.has_info i)) ∙ reach.low
 
-pub command_causes : (disk : Disk) (f0 f1 : ℕ) (ws : List World) (database : Option Database) → FitsWorlds database ws → (command : Command) (reply : Reply)
+pub command_causes : (old disk : Disk) (f0 f1 : ℕ) (ws : List World) (database : Option Database) → FitsWorlds database old ws → (command : Command) (reply : Reply)
     → f0 ≤ f1 → (reply ≡ Refused DeviceFailed → Rose f0 f1)
     → (reply ≡ Refused NumberEnd → EachLeft disk (λ image. past_end_in command image ≡ true))
     → (database ≡ None → IsOpener command → IsOpenReply reply → EachLeft disk IsInReach)
     → LineCauses disk f0 f1 ws (Some command) reply
-command_causes disk f0 f1 ws database fit command reply later device past in_reach = record {
+command_causes old disk f0 f1 ws database fit command reply later device past in_reach = record {
   counted = later;
   device = device;
   past = past;
   in_reach = λ reads opened image left.
-      let opener = opener_of database ws fit command reads in
+      let opener = opener_of database old ws fit command reads in
       reach_ends command image (in_reach opener.0 opener.1 opened image left);
 }
 

@@ -13,11 +13,9 @@ use Rattle.mdb_model.specs.Runs.{Line, TakenLine, Run, last_worlds}
 use Rattle.mdb_model.specs.Serial.{IsSerial}
 use Rattle.mdb_model.specs.Script.{Reads, is_skipped, line_weight, script_lines, most_lines}
 use Rattle.mdb_model.specs.Worlds.{World}
-use Rattle.standing.specs.Standing.{Stands}
 use Rattle.db_kernel.specs.declared.database.Database.{Database}
 use Rattle.db_kernel.specs.Kept.{FitsWorlds}
 use Rattle.db_kernel.specs.Stretch.{LeavesOnly}
-use Rattle.session_rows.specs.Serving.{no_pages}
 use Rattle.script_run.specs.Along.{Taken, KeepsSerialRun}
 use Rattle.script_lines.specs.declared.lines.LineKind.{LineKind}
 use Rattle.script_lines.specs.declared.lines.LineKind.TheVariants.{Text, TooLong, End}
@@ -26,6 +24,7 @@ use Rattle.script_lines.specs.Reading.{Reading, HasRead, FindsNextLine, Advances
 use Rattle.script_lines.proofs.ReadingLaws.{weight-text, script_at_end, script_at_failure, weight-push, limit_answered, limit_shorter, kept-skipped, kept-answered, AreRead-begins}
 use Rattle.script_lines.proofs.ReadingSteps.{HasRead-lines}
 use Rattle.script_run.proofs.Turns.{served_none, served_next, promise_whole, promise_cut}
+use Rattle.db_kernel.specs.Outside.{page_reading, StandsFor}
 
 -- one more line and what it reads as
 reads_push : (texts : List (List ℕ)) (ls : List Line) (text : List ℕ) (line : Line) → AllZip Reads texts ls → Reads text line → AllZip Reads (texts ++ text ∷ []) (ls ++ line ∷ [])
@@ -35,11 +34,11 @@ reads_push (t ∷ texts) [] text line h reads = absurd h
 reads_push (t ∷ texts) (l ∷ ls) text line h reads = (h.0, reads_push texts ls text line h.1 reads)
 
 -- before the first line
-pub progress_first : (d : Disk) (f : ℕ) (ws : List World) (database : Option Database) (reader : Reading) (told : Option (List ℕ)) → ((left : List ℕ) → HasRead reader [] left []) → FitsWorlds database ws → LeavesOnly no_pages Stands d ws
+pub progress_first : (d : Disk) (f : ℕ) (ws : List World) (database : Option Database) (reader : Reading) (told : Option (List ℕ)) → ((left : List ℕ) → HasRead reader [] left []) → FitsWorlds database d ws → LeavesOnly page_reading StandsFor d ws
     → Progress d d f f ws database reader told told 0
 progress_first d f ws database reader told read fit stand = record {
   lines = [];
-  served = served_none no_pages Stands d f ws (FitsWorlds database) fit stand;
+  served = served_none page_reading StandsFor d f ws (FitsWorlds database d) fit stand;
   script = λ bytes is. record {
     given = [];
     left = bytes;
@@ -249,12 +248,12 @@ module _ (d0 d1 : Disk) (f0 f1 : ℕ) (ws : List World) (database : Option Datab
 
   -- the next line was answered, or skipped
   pub progress_turned : (d2 : Disk) (f2 : ℕ) (database2 : Option Database) (answered : Bool)
-      → HandlesLine d1 d2 f1 f2 (last_worlds no_pages ws p.served.run) (IsLineText kind reader2.text) database2 (Ok answered)
+      → HandlesLine d1 d2 f1 f2 (last_worlds page_reading ws p.served.run) (IsLineText kind reader2.text) database2 (Ok answered)
       → (answered ≡ false → Progress d0 d1 f0 f1 ws database reader2 told0 told2 (count + weight_in kind) → Progress d0 d2 f0 f2 ws database2 reader2 told0 told2 (count + weight_in kind))
       → Progress d0 d2 f0 f2 ws database2 reader2 told0 told2 (count + weight_in kind)
   progress_turned d2 f2 database2 true m still = record {
     lines = p.lines ++ m.0 ∷ [];
-    served = served_next no_pages Stands d0 d1 d2 f0 f1 f2 ws p.lines m.0 (FitsWorlds database) (FitsWorlds database2) p.served m.2;
+    served = served_next page_reading StandsFor d0 d1 d2 f0 f1 f2 ws p.lines m.0 (FitsWorlds database d1) (FitsWorlds database2 d2) p.served m.2;
     script = λ bytes is.
         let h = here bytes is in
         read_answered bytes reader told count p.lines (p.script bytes is) h.more h.rest h.split told2 h.is_left reader2 h.found.text (count + weight_in kind) (h.found.read small)
@@ -271,28 +270,28 @@ module _ (d0 d1 : Disk) (f0 f1 : ℕ) (ws : List World) (database : Option Datab
 
 -- How the call ends
 
-module _ (from : List (World × Ages)) (serial_of : (run : List TakenLine) → Run no_pages (map (λ (e : World × Ages). e.0) from) run → IsSerial run)
+module _ (from : List (World × Ages)) (serial_of : (run : List TakenLine) → Run page_reading (map (λ (e : World × Ages). e.0) from) run → IsSerial run)
     (d0 d1 : Disk) (f0 f1 : ℕ) (database : Option Database) (reader : Reading) (told0 told : Option (List ℕ)) (count : ℕ)
     (p : Progress d0 d1 f0 f1 (map (λ (e : World × Ages). e.0) from) database reader told0 told count) (low_count : count ≤ 16777216)
     (reader2 : Reading) (told2 : Option (List ℕ)) where
   whole : (status : Status) → ((before said : List ℕ) (run : List TakenLine) → said ≡ before ++ concat (texts_of run) → RepliesAreSaid status before said run)
-      → ((run : List TakenLine) → lines_of run ≡ p.lines → ScriptIsRead status told0 told2 run) → KeepsSerialRun no_pages Stands d0 d1 f0 f1 from status told0 told2
-  whole status said_so read_so = promise_whole no_pages Stands d0 d1 f0 f1 from serial_of status told0 told2 p.lines (FitsWorlds database) said_so read_so p.served
+      → ((run : List TakenLine) → lines_of run ≡ p.lines → ScriptIsRead status told0 told2 run) → KeepsSerialRun page_reading StandsFor d0 d1 f0 f1 from status told0 told2
+  whole status said_so read_so = promise_whole page_reading StandsFor d0 d1 f0 f1 from serial_of status told0 told2 p.lines (FitsWorlds database d1) said_so read_so p.served
 
-  pub ends_done : (kind : LineKind) → is_end kind ≡ true → Advances told told2 reader reader2 (Ok kind) → KeepsSerialRun no_pages Stands d0 d1 f0 f1 from Done told0 told2
+  pub ends_done : (kind : LineKind) → is_end kind ≡ true → Advances told told2 reader reader2 (Ok kind) → KeepsSerialRun page_reading StandsFor d0 d1 f0 f1 from Done told0 told2
   ends_done kind end advances = whole Done (λ before said run is. is) (λ run lines_are bytes is.
       let q = p.script bytes is in
       let a = advances q.given q.left q.done q.is_left q.read in
       let found = finds_end kind reader2 (q.given ++ a.0) a.1 q.done end a.4 in
       read_to_end bytes reader told count p.lines q a.0 a.1 a.2 told2 a.3 found.0 found.1 low_count run lines_are)
 
-  pub ends_script : (fault : SourceFault) → Advances told told2 reader reader2 (Err fault) → KeepsSerialRun no_pages Stands d0 d1 f0 f1 from ScriptFault told0 told2
+  pub ends_script : (fault : SourceFault) → Advances told told2 reader reader2 (Err fault) → KeepsSerialRun page_reading StandsFor d0 d1 f0 f1 from ScriptFault told0 told2
   ends_script fault advances = whole ScriptFault (λ before said run is. is) (λ run lines_are bytes is.
       let q = p.script bytes is in
       let a = advances q.given q.left q.done q.is_left q.read in
       read_to_fault bytes reader told count p.lines q a.0 a.1 a.2 told2 a.3 a.4 low_count run lines_are)
 
-  pub ends_limit : (kind : LineKind) → is_end kind ≡ false → Advances told told2 reader reader2 (Ok kind) → 16777216 < count + weight_in kind → KeepsSerialRun no_pages Stands d0 d1 f0 f1 from LinesEnd told0 told2
+  pub ends_limit : (kind : LineKind) → is_end kind ≡ false → Advances told told2 reader reader2 (Ok kind) → 16777216 < count + weight_in kind → KeepsSerialRun page_reading StandsFor d0 d1 f0 f1 from LinesEnd told0 told2
   ends_limit kind not_end advances high = whole LinesEnd (λ before said run is. is) (λ run lines_are bytes is.
       let q = p.script bytes is in
       let h = line_found bytes reader told count p.lines q kind reader2 told2 not_end advances in
@@ -300,21 +299,21 @@ module _ (from : List (World × Ages)) (serial_of : (run : List TakenLine) → R
 
   pub ends_say : (kind : LineKind) → is_end kind ≡ false → Advances told told2 reader reader2 (Ok kind) → weight_in kind ≤ 16777216 → count + weight_in kind ≤ 16777216
       → (dn : Disk) (fn : ℕ) (line : Line) → ReadsAs (IsLineText kind reader2.text) line
-      → Taken no_pages Stands d1 dn f1 fn (last_worlds no_pages (map (λ (e : World × Ages). e.0) from) p.served.run) line
-      → KeepsSerialRun no_pages Stands d0 dn f0 fn from SayFault told0 told2
+      → Taken page_reading StandsFor d1 dn f1 fn (last_worlds page_reading (map (λ (e : World × Ages). e.0) from) p.served.run) line
+      → KeepsSerialRun page_reading StandsFor d0 dn f0 fn from SayFault told0 told2
   ends_say kind not_end advances small fits dn fn line reads next =
-      promise_cut no_pages Stands d0 dn f0 fn from serial_of d1 f1 p.lines line (FitsWorlds database) p.served next told0 told2 (λ run lines_are bytes is.
+      promise_cut page_reading StandsFor d0 dn f0 fn from serial_of d1 f1 p.lines line (FitsWorlds database d1) p.served next told0 told2 (λ run lines_are bytes is.
       let q = p.script bytes is in
       let h = line_found bytes reader told count p.lines q kind reader2 told2 not_end advances in
       read_to_reply bytes reader told count p.lines q h.more h.rest h.split told2 h.is_left h.found.text h.found.more h.found.are
       (omega (arith, fits, h.found.exact small)) line (reads h.found.text h.found.is) run lines_are)
 
 -- nothing was read
-pub ends_memory : (from : List (World × Ages)) (serial_of : (run : List TakenLine) → Run no_pages (map (λ (e : World × Ages). e.0) from) run → IsSerial run) (d : Disk) (f : ℕ) (told : Option (List ℕ))
-    → LeavesOnly no_pages Stands d (map (λ (e : World × Ages). e.0) from) → KeepsSerialRun no_pages Stands d d f f from Memory told told
+pub ends_memory : (from : List (World × Ages)) (serial_of : (run : List TakenLine) → Run page_reading (map (λ (e : World × Ages). e.0) from) run → IsSerial run) (d : Disk) (f : ℕ) (told : Option (List ℕ))
+    → LeavesOnly page_reading StandsFor d (map (λ (e : World × Ages). e.0) from) → KeepsSerialRun page_reading StandsFor d d f f from Memory told told
 ends_memory from serial_of d f told stand =
-    promise_whole no_pages Stands d d f f from serial_of Memory told told [] (λ vs. Unit {0}) (λ before said run is. is) (λ run lines_are bytes is. ([], (bytes, refl, is, no_run run lines_are)))
-    (served_none no_pages Stands d f (map (λ (e : World × Ages). e.0) from) (λ vs. Unit {0}) tt stand)
+    promise_whole page_reading StandsFor d d f f from serial_of Memory told told [] (λ vs. Unit {0}) (λ before said run is. is) (λ run lines_are bytes is. ([], (bytes, refl, is, no_run run lines_are)))
+    (served_none page_reading StandsFor d f (map (λ (e : World × Ages). e.0) from) (λ vs. Unit {0}) tt stand)
   where
     no_run : (run : List TakenLine) → lines_of run ≡ [] → run ≡ []
     no_run [] is = refl

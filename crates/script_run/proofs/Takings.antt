@@ -1,7 +1,8 @@
 -- A line that was done, and its reply.
-use Rattle.std.proofs.Common.{◌≡◌, inl, inr, refl, sym, subst, ap, ◌∙◌, ℕ, ◌<◌, ◌≤◌, List, [], ◌∷◌, ◌++◌, length, take, drop, arith}
+use Rattle.std.proofs.Common.{◌≡◌, inl, inr, refl, sym, ap, ◌∙◌, ℕ, ◌<◌, ◌≤◌, List, [], ◌∷◌, ◌++◌, Contains, length, take, drop, arith}
 use Rattle.std.proofs.lemmas.Bool.{cases_lt}
 use Rattle.std.proofs.lemmas.List.{append-nil, length-take-le, take-append-drop, take_all}
+use Rattle.mdb_model.specs.declared.script.Reply.{Reply}
 use Rattle.mdb_model.specs.Images.{Image}
 use Rattle.mdb_host.specs.Disk.{Disk, Keeps}
 use Rattle.mdb_host.proofs.Moments.{keeps_on}
@@ -10,25 +11,46 @@ use Rattle.mdb_model.specs.Worlds.{World, off}
 use Rattle.mdb_model.specs.Answers.{Answer}
 use Rattle.mdb_model.specs.Text.{text_of}
 use Rattle.mdb_model.specs.Runs.{Line, TakenLine}
-use Rattle.db_kernel.specs.Stretch.{Does, Completes}
-use Rattle.script_run.specs.Speaking.{Speaks}
+use Rattle.db_kernel.specs.Outside.{Ties}
+use Rattle.db_kernel.specs.Stretch.{Does, MayBe}
+use Rattle.script_run.specs.Speaking.{SaysWhile}
 use Rattle.script_run.specs.Along.{At, Passes, Taken, TakenWhole}
 use Rattle.script_run.proofs.Caused.{LineCauses, line_causes}
-use Rattle.script_run.proofs.Join.{text_is_some}
+use Rattle.script_run.proofs.Texts.{text_is_some}
+use Rattle.script_run.proofs.Tying.{tied_one}
 
 module _ (reading : PageReading) (stands : Image → World → Type 0) where
-  module _ (d0 d1 d2 : Disk) (ws : List World) (line : Line) (answer : Answer) (after : List World) (does : Does reading stands d0 d1 ws line answer after) (speaks : Speaks d1 d2 (text_of answer)) where
+  -- an image that is left once a line was done, and while its answer is said
+  pub record IsAfter (ws : List World) (line : Line) (reply : Reply) (after : List World) (image : Image) : Type 0 where
+    pub stop : (v : World) × stands image v × MayBe reading stands ws line v
+    pub stand : (w : World) × Contains after w × stands image (off w)
+    pub ties : (w w' : World) → Contains ws w → Contains after w' → Ties line reply w w' image
+
+  -- where only texts are said, each image could have been left as the line was done
+  pub is_after : (d0 d1 : Disk) (ws : List World) (line : Line) (answer : Answer) (after : List World) → Does reading stands d0 d1 ws line answer after
+      → (image : Image) → d1.may_leave d1.now image → IsAfter ws line answer.reply after image
+  is_after d0 d1 ws line answer after does image left = record {
+    stop = does.stop d1.now image does.keeps.later (omega arith) left;
+    stand = does.stand image left;
+    ties = λ w w' before there. does.ties w w' before there image left;
+  }
+
+  module _ (d0 d1 d2 : Disk) (ws : List World) (line : Line) (answer : Answer) (after : List World) (does : Does reading stands d0 d1 ws line answer after)
+      (says : SaysWhile d1 d2 (text_of answer) (IsAfter ws line answer.reply after)) where
     abbrev entry : TakenLine
     entry = record { line = line; answer = answer; worlds = after }
 
     keeps : Keeps d0 d2
-    keeps = keeps_on d0 d1 d2 does.keeps speaks.keeps
+    keeps = keeps_on d0 d1 d2 does.keeps says.keeps
 
     begun : d2.said d0.now ≡ d0.said d0.now
     begun = keeps.said d0.now (omega arith)
 
     before : d1.said d1.now ≡ d2.said d0.now
     before = does.quiet d1.now does.keeps.later (omega arith) ∙ sym begun
+
+    silent : (t : ℕ) → d0.now ≤ t → t < d1.now → d2.said t ≡ d2.said d0.now
+    silent t from lt = says.keeps.said t (omega (arith, lt)) ∙ does.quiet t from (omega (arith, lt)) ∙ sym begun
 
     -- while nothing of it is said
     early : (t : ℕ) → d0.now ≤ t → t ≤ d1.now → At reading stands d0.now d2 t ws (entry ∷ [])
@@ -37,10 +59,10 @@ module _ (reading : PageReading) (stands : Image → World → Type 0) where
       within = omega arith;
       said = (
         [],
-        speaks.keeps.said t le ∙ does.quiet t from le ∙ sym begun ∙ sym (append-nil (d2.said d0.now)) ∙ sym (append-nil (d2.said d0.now ++ [])),
+        says.keeps.said t le ∙ does.quiet t from le ∙ sym begun ∙ sym (append-nil (d2.said d0.now)) ∙ sym (append-nil (d2.said d0.now ++ [])),
         ((text_of answer, refl), text_is_some answer),
       );
-      stand = λ image left. does.stop t image from le (speaks.keeps.no_more t image le left);
+      stand = λ image left. does.stop t image from le (says.keeps.no_more t image le left);
     }
 
     -- once a part of it is said
@@ -52,9 +74,9 @@ module _ (reading : PageReading) (stands : Image → World → Type 0) where
         said = (
           take n (text_of answer),
           is ∙ (λ i. before i ++ take n (text_of answer)) ∙ (λ i. append-nil-back i ++ take n (text_of answer)),
-          ((drop n (text_of answer), take-append-drop n (text_of answer)), omega (arith, length-take-le n (text_of answer) within)),
+          ((drop n (text_of answer), take-append-drop n (text_of answer)), omega (arith, length-take-le n (text_of answer) within, lt)),
         );
-        stand = λ image left. does.stop d1.now image does.keeps.later (omega arith) (speaks.left t image from_said upto left);
+        stand = λ image left. let a = says.each t image from_said upto left in a.stop;
       }
         where
           append-nil-back : d2.said d0.now ≡ d2.said d0.now ++ []
@@ -66,8 +88,8 @@ module _ (reading : PageReading) (stands : Image → World → Type 0) where
         within = omega arith;
         said = ([], is ∙ (λ i. before i ++ take n (text_of answer)) ∙ ap (λ (l : List ℕ). d2.said d0.now ++ l) whole ∙ sym (append-nil (d2.said d0.now ++ (text_of answer ++ []))), refl);
         stand = λ image left.
-            let w = does.stand image (speaks.left t image from_said upto left) in
-            (off w.0, w.2, (w.0, w.1, inl refl));
+            let a = says.each t image from_said upto left in
+            (off a.stand.0, a.stand.2, (a.stand.0, a.stand.1, inl refl));
       }
         where
           whole : take n (text_of answer) ≡ text_of answer ++ []
@@ -85,19 +107,20 @@ module _ (reading : PageReading) (stands : Image → World → Type 0) where
       follows = (does.entry, tt);
       moments = λ t from upto_end. elim (cases_lt t d1.now) [
         | inl lt ↦ early t from (omega (arith, lt))
-        | inr ge ↦ let p = speaks.part t ge upto_end in late t ge upto_end p.0 p.1 p.2
+        | inr ge ↦ let p = says.part t ge upto_end in late t ge upto_end p.0 p.1 p.2
       ];
+      ties = tied_one reading stands d0 d2 ws entry d1.now silent (λ w w' old there t image from upto left. let a = says.each t image from upto left in a.ties w w' old there);
     }
 
     -- what is said in the end
     end : (n : ℕ) × (n ≤ length (text_of answer)) × (d2.said d2.now ≡ d1.said d1.now ++ take n (text_of answer))
-    end = speaks.part d2.now speaks.keeps.later (omega arith)
+    end = says.part d2.now says.keeps.later (omega arith)
 
     pub taken : (before mid now : ℕ) → LineCauses d1 before mid ws line answer.reply → mid ≤ now → Taken reading stands d0 d2 before now ws line
     taken before mid now causes counted = record {
       entry = entry;
       is = refl;
-      causes = line_causes reading stands d0 d1 d2 before mid now ws line answer after does speaks causes counted;
+      causes = line_causes reading stands d0 d1 d2 before mid now ws line answer after does says.keeps causes counted;
       passes = passes;
       part = take end.0 (text_of answer);
       said = end.2 ∙ (λ i. does.quiet d1.now does.keeps.later (omega arith) i ++ take end.0 (text_of answer));
@@ -109,19 +132,9 @@ module _ (reading : PageReading) (stands : Image → World → Type 0) where
     taken_whole before mid now causes counted fits fit whole = record {
       entry = entry;
       is = refl;
-      causes = line_causes reading stands d0 d1 d2 before mid now ws line answer after does speaks causes counted;
+      causes = line_causes reading stands d0 d1 d2 before mid now ws line answer after does says.keeps causes counted;
       passes = passes;
       said = whole ∙ (λ i. does.quiet d1.now does.keeps.later (omega arith) i ++ text_of answer);
       fit = fit;
-      stand = λ image left. does.stand image (speaks.left d2.now image speaks.keeps.later (omega arith) left);
+      stand = λ image left. let a = says.each d2.now image says.keeps.later (omega arith) left in a.stand;
     }
-
-  -- as the code has it: the text is given
-  module _ (d0 d1 d2 : Disk) (f0 f1 f2 : ℕ) (ws : List World) (line : Line) (answer : Answer) (fits : List World → Type 0) (done : Completes reading stands d0 d1 ws line answer fits)
-      (causes : LineCauses d1 f0 f1 ws line answer.reply) (counted : f1 ≤ f2) (bytes : List ℕ) (spelled : bytes ≡ text_of answer) (speaks : Speaks d1 d2 bytes) where
-    pub line_taken : Taken reading stands d0 d2 f0 f2 ws line
-    line_taken = taken d0 d1 d2 ws line answer done.after done.does (subst (λ (l : List ℕ). Speaks d1 d2 l) spelled speaks) f0 f1 f2 causes counted
-
-    pub line_taken_whole : d2.said d2.now ≡ d1.said d1.now ++ bytes → TakenWhole reading stands d0 d2 f0 f2 ws line fits
-    line_taken_whole whole =
-        taken_whole d0 d1 d2 ws line answer done.after done.does (subst (λ (l : List ℕ). Speaks d1 d2 l) spelled speaks) f0 f1 f2 causes counted fits done.fit (whole ∙ (λ i. d1.said d1.now ++ spelled i))

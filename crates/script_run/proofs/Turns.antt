@@ -22,7 +22,8 @@ use Rattle.db_kernel.specs.Damages.{past_end_in}
 use Rattle.db_kernel.specs.Stretch.{LeavesOnly}
 use Rattle.script_run.specs.Along.{instant, Passes, Taken, TakenWhole, Served, KeepsSerialRun}
 use Rattle.script_run.proofs.Caused.{caused_push}
-use Rattle.script_run.proofs.Join.{join, join_said, begins, said_all, said_then, lines-append, last-append}
+use Rattle.script_run.proofs.Texts.{said_all, said_then, lines-append}
+use Rattle.script_run.proofs.Join.{join, join_said, begins, last-append}
 
 pub contains_map : {A B : Type 0} (f : A → B) (xs : List A) (x : A) → Contains xs x → Contains (map f xs) (f x)
 contains_map f [] x (k, inside, is) = absurd (omega arith)
@@ -98,6 +99,7 @@ module _ (reading : PageReading) (stands : Image → World → Type 0) where
         causes = causes_of served.passes.keeps served.run served.instants served.causes;
       };
       serial = serial_of served.run served.passes.follows;
+      ties = served.passes.ties;
     }
 
     -- the reply to one could not be said
@@ -142,6 +144,7 @@ module _ (reading : PageReading) (stands : Image → World → Type 0) where
               next.causes.within next.causes.counted);
         };
         serial = serial_of (so_far.run ++ next.entry ∷ []) both.follows;
+        ties = both.ties;
       }
 
   -- What a call starts from

@@ -9,8 +9,7 @@ use Rattle.mdb_model.specs.Runs.{Run, TakenLine}
 use Rattle.mdb_model.specs.Serial.{IsSerial}
 use Rattle.mdb_model.specs.Worlds.{World, created}
 use Rattle.mdb_host.specs.Disk.{Disk}
-use Rattle.standing.specs.Standing.{Stands}
-use Rattle.session_rows.specs.Serving.{no_pages}
+use Rattle.db_kernel.specs.Outside.{page_reading, StandsFor}
 
 -- the world of a new database, as the words ask for it
 abbrev pub new_world : (birth log_pages : ℕ) → (data_pages : List ℕ) → World
@@ -21,19 +20,20 @@ new_world birth log_pages data_pages = created birth (sum data_pages) ((log_page
 pub record RunsAgain (host again : Disk) (world : World) (first second : Status) (start at : ℕ)
     : Type 0 where
   pub run : List TakenLine
-  pub follows : Run no_pages (world ∷ []) run
+  pub follows : Run page_reading (world ∷ []) run
   pub serial : IsSerial run
   pub replies : RepliesAreSaid first (host.said start) (host.said host.now) run
   -- so many replies were said at the crash, and it left this world
   pub count : ℕ
-  pub said : HasSaid no_pages host.said host.may_leave Stands start at run count
+  pub said : HasSaid page_reading host.said host.may_leave StandsFor start at run count
   pub left : World
-  pub possible : IsPossible no_pages host.said host.may_leave Stands (world ∷ []) run count left
+  pub possible : IsPossible page_reading host.said host.may_leave StandsFor (world ∷ []) run count
+      left
   -- which the second call goes on from
   pub next : List TakenLine
-  pub goes_on : Run no_pages (left ∷ []) next
+  pub goes_on : Run page_reading (left ∷ []) next
   pub serial_again : IsSerial next
   pub replies_again : RepliesAreSaid second [] (again.said again.now) next
   pub stands : (image : Image) → again.may_leave again.now image
-      → (k : ℕ) × ((v : World) × Stands image v
-      × IsPossible no_pages again.said again.may_leave Stands (left ∷ []) next k v)
+      → (k : ℕ) × ((v : World) × StandsFor image v
+      × IsPossible page_reading again.said again.may_leave StandsFor (left ∷ []) next k v)

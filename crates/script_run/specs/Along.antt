@@ -1,13 +1,16 @@
 -- A stretch of calls as a stretch of a run of the machine.
 --     At      what is so at one moment: some replies are said, and each image stands for a world
 --         that is possible then
+--     IsLine, AtReplyOf, AreTied      a line of a run; what is so of each image at the moment of a
+--         reply; what the lines of a run tie is so
 --     Passes      from old to new these lines were taken
 --     instant, HasCauses      a moment and the count of faults then; how a line came to its answer
 --     Taken, TakenWhole      one line was taken and its reply was said, perhaps not to its end; to
 --         its end
 --     Served      lines were taken in order, and all replies are said
 --     KeepsSerialRun      what a whole call keeps
-use Rattle.std.specs.Prelude.{◌≡◌, ℕ, ◌≤◌, List, [], ◌∷◌, ◌++◌, Option, length}
+use Rattle.std.specs.Prelude.{◌≡◌, ℕ, ◌+◌, ◌≤◌, List, [], ◌∷◌, ◌++◌, Option, length, map}
+use Rattle.std.specs.FinMap.{empty}
 use Rattle.std.specs.List.{concat}
 use Rattle.mdb_model.specs.Images.{Image}
 use Rattle.mdb_model.specs.Pages.{PageReading}
@@ -15,11 +18,13 @@ use Rattle.mdb_model.specs.Worlds.{World}
 use Rattle.mdb_model.specs.Runs.{Line, TakenLine, Run, last_worlds}
 use Rattle.mdb_model.specs.Serial.{IsSerial}
 use Rattle.mdb_model.specs.Text.{text_of}
-use Rattle.mdb_model.specs.Headline.{IsPrefix, HasSaid, IsPossible, Instant, IsCaused, AreCaused, KeepsRun, texts_of, lines_of}
+use Rattle.mdb_model.specs.Headline.{IsPrefix, HasSaid, IsPossible, Instant, IsCaused, AreCaused, KeepsRun, LineIs, AtReply, texts_of, lines_of}
 use Rattle.mdb_model.specs.Agreement.{Ages}
+use Rattle.mdb_model.specs.declared.script.Reply.{Reply}
 use Rattle.mdb_model.specs.declared.status.Status.{Status}
 use Rattle.mdb_host.specs.Disk.{Disk, Keeps}
 use Rattle.db_kernel.specs.Damages.{past_end_in}
+use Rattle.db_kernel.specs.Outside.{Ties}
 use Rattle.db_kernel.specs.Stretch.{LeavesOnly}
 
 -- a moment, and how many calls on devices had failed by then
@@ -27,6 +32,17 @@ abbrev pub instant : (clock faults : ℕ) → Instant
 instant clock faults = record { read = clock; clock = clock; faults = faults }
 
 module _ (reading : PageReading) (stands : Image → World → Type 0) where
+  -- a line of a run, and the first moment at which so many replies are said, as in the promise
+  abbrev pub IsLine : (disk : Disk) → List World → List TakenLine → ℕ → Line → Reply
+      → (before after : World) → Type 0
+  IsLine disk =
+      LineIs reading disk.said disk.may_leave stands (λ image. empty) (λ image. 0) (λ image. 0)
+
+  abbrev pub AtReplyOf : (old new : Disk) → List TakenLine → ℕ → (Image → Type 0) → Type 0
+  AtReplyOf old new =
+      AtReply reading new.said new.may_leave stands (λ image. empty) (λ image. 0) (λ image. 0)
+      old.now new.now
+
   pub record At (start : ℕ) (disk : Disk) (t : ℕ) (ws : List World) (run : List TakenLine)
       : Type 0 where
     pub count : ℕ
@@ -36,10 +52,18 @@ module _ (reading : PageReading) (stands : Image → World → Type 0) where
         → (v : World) × stands image v × IsPossible reading disk.said disk.may_leave stands ws run
         count v
 
+  -- each image at the moment of a reply is tied as its line ties it, with each world before the
+  -- line and each one after it
+  abbrev pub AreTied : (old new : Disk) → List World → List TakenLine → Type 0
+  AreTied old new ws run =
+      (k : ℕ) (line : Line) (reply : Reply) (w w' : World) → IsLine new ws run k line reply w w'
+      → AtReplyOf old new run (k + 1) (Ties line reply w w')
+
   pub record Passes (old new : Disk) (ws : List World) (run : List TakenLine) : Type 0 where
     pub keeps : Keeps old new
     pub follows : Run reading ws run
     pub moments : (t : ℕ) → old.now ≤ t → t ≤ new.now → At old.now new t ws run
+    pub ties : AreTied old new ws run
 
   -- the causes of a line, with the counts of faults before it and after it
   pub record HasCauses (old new : Disk) (before now : ℕ) (ws : List World) (entry : TakenLine)
@@ -82,9 +106,11 @@ module _ (reading : PageReading) (stands : Image → World → Type 0) where
     pub fit : fits (last_worlds reading ws run)
     pub stand : LeavesOnly reading stands new (last_worlds reading ws run)
 
-  -- what a call keeps: its run, in which each transaction was answered as with nobody else
+  -- what a call keeps: its run, in which each transaction was answered as with nobody else, and
+  -- each image at the moment of a reply is tied as the line ties it
   pub record KeepsSerialRun (old new : Disk) (before now : ℕ) (from : List (World × Ages))
       (status : Status) (left_before left : Option (List ℕ)) : Type 0 where
     pub kept : KeepsRun reading new.said new.may_leave stands past_end_in status old.now new.now
         before now left_before left from
     pub serial : IsSerial kept.run
+    pub ties : AreTied old new (map (λ e. e.0) from) kept.run

@@ -12,24 +12,25 @@ use Rattle.mdb_model.specs.Worlds.{World}
 use Rattle.mdb_host.specs.Disk.{Disk, IsThere}
 use Rattle.mdb_host.specs.Places.{device_at}
 use Rattle.creation.specs.Devices.{device_count}
-use Rattle.standing.specs.Standing.{Stands}
-use Rattle.session_rows.specs.Serving.{no_pages}
 use Rattle.script_run.specs.Along.{KeepsSerialRun}
+use Rattle.db_kernel.specs.Outside.{page_reading, StandsFor}
 
 -- of each start, by what a crash at the entry may leave: the promise of a call. Of the source are
 -- given the bytes that it tells before and after, where it tells them
 abbrev pub RunPromise : (old new : Disk) → (faults_before faults : ℕ) → Status
     → (left_before left : Option (List ℕ)) → Type 0
 RunPromise old new faults_before faults status left_before left =
-    (from : List (World × Ages)) → CanStart no_pages old.said old.may_leave Stands old.now from
-    → KeepsSerialRun no_pages Stands old new faults_before faults from status left_before left
+    (from : List (World × Ages))
+    → CanStart page_reading old.said old.may_leave StandsFor old.now from
+    → KeepsSerialRun page_reading StandsFor old new faults_before faults from status left_before
+    left
 
 -- of a database of this birth, with volumes of so many pages
 abbrev pub NewPromise : (old new : Disk) → Status → (birth log_pages : ℕ) → (data_pages : List ℕ)
     → Type 0
 NewPromise old new status birth log_pages data_pages =
-    CreatePromise no_pages new.said new.may_leave Stands status old.now new.now birth log_pages
-    data_pages
+    CreatePromise page_reading new.said new.may_leave StandsFor status old.now new.now birth
+    log_pages data_pages
 
 abbrev pub EndsRun : Status → Type 0
 EndsRun Usage = ⊥

@@ -12,22 +12,21 @@ use Rattle.mdb_model.specs.Runs.{Line}
 use Rattle.mdb_model.specs.Script.{Reads, is_skipped}
 use Rattle.mdb_model.specs.Worlds.{World}
 use Rattle.mdb_host.specs.Disk.{Disk}
-use Rattle.standing.specs.Standing.{Stands}
 use Rattle.db_kernel.specs.declared.database.Database.{Database}
 use Rattle.db_kernel.specs.Kept.{FitsWorlds}
-use Rattle.session_rows.specs.Serving.{no_pages}
 use Rattle.script_lines.specs.declared.lines.LineKind.{LineKind}
 use Rattle.script_lines.specs.declared.lines.LineKind.TheVariants.{Text, TooLong, End}
 use Rattle.script_run.specs.Along.{Taken, TakenWhole, Served}
 use Rattle.script_lines.specs.Reading.{Reading, HasRead, kept, weight_of}
+use Rattle.db_kernel.specs.Outside.{page_reading, StandsFor}
 
 -- a line was done, and what answers it is said, or not to its end
 abbrev pub DoesLine : (old new : Disk) → (before now : ℕ) → List World → Line
     → (after : Option Database) → Result (Unit {0}) Fault → Type 0
 DoesLine old new before now ws line after (Ok done) =
-    TakenWhole no_pages Stands old new before now ws line (FitsWorlds after)
+    TakenWhole page_reading StandsFor old new before now ws line (FitsWorlds after new)
 DoesLine old new before now ws line after (Err fault) =
-    Taken no_pages Stands old new before now ws line
+    Taken page_reading StandsFor old new before now ws line
 
 -- each text that the line may have is answered, and reads so
 abbrev pub ReadsAs : (List ℕ → Type 0) → Line → Type 0
@@ -38,12 +37,12 @@ abbrev pub HandlesLine : (old new : Disk) → (before now : ℕ) → List World
     → (IsText : List ℕ → Type 0)
     → (after : Option Database) → Result Bool Fault → Type 0
 HandlesLine old new before now ws IsText after (Ok true) =
-    (line : Line) × ReadsAs IsText line × TakenWhole no_pages Stands old new before now ws line
-    (FitsWorlds after)
+    (line : Line) × ReadsAs IsText line
+    × TakenWhole page_reading StandsFor old new before now ws line (FitsWorlds after new)
 HandlesLine old new before now ws IsText after (Ok false) =
     (text : List ℕ) → IsText text → is_skipped text ≡ true
 HandlesLine old new before now ws IsText after (Err fault) =
-    (line : Line) × ReadsAs IsText line × Taken no_pages Stands old new before now ws line
+    (line : Line) × ReadsAs IsText line × Taken page_reading StandsFor old new before now ws line
 
 abbrev pub IsLineText : LineKind → (found text : List ℕ) → Type 0
 IsLineText Text found text = text ≡ found
@@ -76,6 +75,7 @@ pub record Progress (old now_is : Disk) (before now : ℕ) (ws : List World)
     (database : Option Database) (reader : Reading) (told_before told : Option (List ℕ)) (count : ℕ)
     : Type 0 where
   pub lines : List Line
-  pub served : Served no_pages Stands old now_is before now ws lines (FitsWorlds database)
+  pub served : Served page_reading StandsFor old now_is before now ws lines
+      (FitsWorlds database now_is)
   pub script : (bytes : List ℕ) → told_before ≡ Some bytes
       → HasReadLines bytes reader told count lines

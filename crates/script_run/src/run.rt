@@ -7,12 +7,11 @@ ghost use Rattle.mdb_model.specs.Runs.{Line};
 ghost use Rattle.mdb_model.specs.Script.{is_in_range};
 ghost use Rattle.mdb_model.specs.Worlds.{World};
 ghost use Rattle.mdb_host.specs.Disk.{Disk, Keeps};
-ghost use Rattle.standing.specs.Standing.{Stands};
 ghost use Rattle.db_kernel.specs.Kept.{Ready, Meets, FitsWorlds};
 ghost use Rattle.db_kernel.specs.Stretch.{LeavesOnly, Completes};
-ghost use Rattle.session_rows.specs.Serving.{no_pages};
 ghost use Rattle.script_run.specs.Calls.{EndsRun, RunPromise};
 ghost use Rattle.script_run.specs.Progress.{DoesLine, HandlesLine, IsLineText, is_end as no_line, weight_in};
+ghost use Rattle.db_kernel.specs.Outside.{page_reading, StandsFor};
 
 use crate::saying::{say_reply, say_scan};
 use db_kernel::kernel::Kernel;
@@ -35,8 +34,9 @@ fn answer_command<H: Host>(
     ensures ready { Ready kernel.new.database }
     ensures meets { H.tells → Meets kernel.new.database (H.disk host.new).seen }
     ensures keeps { H.tells → Keeps (H.disk host.old) (H.disk host.new) }
-    ensures does { H.tells → (ws : List World) → FitsWorlds kernel.old.database ws
-        → LeavesOnly no_pages Stands (H.disk host.old) ws
+    ensures does { H.tells → (ws : List World)
+        → FitsWorlds kernel.old.database (H.disk host.old) ws
+        → LeavesOnly page_reading StandsFor (H.disk host.old) ws
         → DoesLine (H.disk host.old) (H.disk host.new) (H.faults host.old) (H.faults host.new) ws
         (Some command.now) kernel.new.database result }
     ensures later { H.faults host.old ≤ H.faults host.new }
@@ -60,8 +60,8 @@ fn refuse<H: Host>(kernel: &Kernel, host: &mut H, refusal: Refusal) -> Result<()
     ensures meets { H.tells → Meets kernel.now.database (H.disk host.new).seen }
     ensures keeps { H.tells → Keeps (H.disk host.old) (H.disk host.new) }
     ensures does { H.tells → (ws : List World) (line : Line)
-        → Completes no_pages Stands (H.disk host.old) (H.disk host.old) ws line (refused refusal)
-        (FitsWorlds kernel.now.database)
+        → Completes page_reading StandsFor (H.disk host.old) (H.disk host.old) ws line
+        (refused refusal) (FitsWorlds kernel.now.database (H.disk host.old))
         → DoesLine (H.disk host.old) (H.disk host.new) (H.faults host.old) (H.faults host.new) ws
         line kernel.now.database result }
     ensures faults { H.faults host.new ≡ H.faults host.old }
@@ -84,8 +84,9 @@ fn take_line<H: Host>(
     ensures keeps { H.tells → Keeps (H.disk host.old) (H.disk host.new) }
     ensures still { IfOk result (λ answered. answered ≡ false
         → (host.new ≡ host.old) × (kernel.new ≡ kernel.old)) }
-    ensures turned { H.tells → (ws : List World) → FitsWorlds kernel.old.database ws
-        → LeavesOnly no_pages Stands (H.disk host.old) ws
+    ensures turned { H.tells → (ws : List World)
+        → FitsWorlds kernel.old.database (H.disk host.old) ws
+        → LeavesOnly page_reading StandsFor (H.disk host.old) ws
         → HandlesLine (H.disk host.old) (H.disk host.new) (H.faults host.old) (H.faults host.new) ws
         (λ text. text ≡ line.now) kernel.new.database result }
     ensures later { H.faults host.old ≤ H.faults host.new }
@@ -106,8 +107,9 @@ fn refuse_line<H: Host>(kernel: &Kernel, host: &mut H) -> Result<bool, Failed>
     ensures meets { H.tells → Meets kernel.now.database (H.disk host.new).seen }
     ensures keeps { H.tells → Keeps (H.disk host.old) (H.disk host.new) }
     ensures answered { IfOk result (λ answered. answered ≡ false → ⊥) }
-    ensures turned { H.tells → (ws : List World) → FitsWorlds kernel.now.database ws
-        → LeavesOnly no_pages Stands (H.disk host.old) ws
+    ensures turned { H.tells → (ws : List World)
+        → FitsWorlds kernel.now.database (H.disk host.old) ws
+        → LeavesOnly page_reading StandsFor (H.disk host.old) ws
         → HandlesLine (H.disk host.old) (H.disk host.new) (H.faults host.old) (H.faults host.new) ws
         (λ text. 8192 < length text) kernel.now.database result }
     ensures faults { H.faults host.new ≡ H.faults host.old }
@@ -132,8 +134,9 @@ fn answer<H: Host>(
     ensures keeps { H.tells → Keeps (H.disk host.old) (H.disk host.new) }
     ensures still { IfOk result (λ answered. answered ≡ false
         → (host.new ≡ host.old) × (kernel.new ≡ kernel.old)) }
-    ensures turned { H.tells → (ws : List World) → FitsWorlds kernel.old.database ws
-        → LeavesOnly no_pages Stands (H.disk host.old) ws
+    ensures turned { H.tells → (ws : List World)
+        → FitsWorlds kernel.old.database (H.disk host.old) ws
+        → LeavesOnly page_reading StandsFor (H.disk host.old) ws
         → HandlesLine (H.disk host.old) (H.disk host.new) (H.faults host.old) (H.faults host.new) ws
         (IsLineText kind found.now) kernel.new.database result }
     ensures later { H.faults host.old ≤ H.faults host.new }

@@ -1,18 +1,18 @@
 //! Saying what answers a line: a reply by one call, and the rows of a scan one by one.
-ghost use Rattle.std.specs.Prelude.{◌≡◌, ℕ, ◌+◌, ◌^◌, ◌<◌, ◌++◌, List, length, IfOk, OnOk, IsTrue};
+ghost use Rattle.std.specs.Prelude.{◌≡◌, ℕ, ◌≤◌, ◌<◌, ◌++◌, List, IfOk, OnOk, IsTrue};
 ghost use Rattle.mdb_model.specs.Answers.{plain, Row};
 ghost use Rattle.mdb_model.specs.Causes.{HasCause};
-ghost use Rattle.mdb_model.specs.declared.script.Reply.TheVariants.{ScanOpen};
 ghost use Rattle.mdb_model.specs.Script.{is_session, is_table};
 ghost use Rattle.mdb_model.specs.Steps.{rows_of};
 ghost use Rattle.mdb_model.specs.Text.{line_of, item_words, reply_words, text_of};
-ghost use Rattle.mdb_host.specs.Disk.{Disk, Keeps, Agree};
-ghost use Rattle.mdb_bytes.specs.Held.{next_row};
-ghost use Rattle.db_kernel.specs.Kept.{scanned_rows};
-ghost use Rattle.db_kernel.specs.Refusing.{IsAsBefore};
-ghost use Rattle.session_rows.specs.Replies.{scan_answer};
-ghost use Rattle.session_rows.specs.Serving.{HasKeys};
-ghost use Rattle.script_run.specs.Speaking.{Speaks, row_text as text_of_row, IsNextKey};
+ghost use Rattle.mdb_model.specs.Worlds.{World};
+ghost use Rattle.mdb_host.specs.Disk.{Disk, Keeps};
+ghost use Rattle.db_kernel.specs.Kept.{Ready, Meets, FitsWorlds, scanned_rows};
+ghost use Rattle.db_kernel.specs.Outside.{page_reading, StandsFor};
+ghost use Rattle.db_kernel.specs.Scanning.{FaultHasCause};
+ghost use Rattle.db_kernel.specs.Stretch.{LeavesOnly};
+ghost use Rattle.script_run.specs.Speaking.{Speaks};
+ghost use Rattle.script_run.specs.Scans.{IsOpenScan, SaysNext, SaysRows, SaysScan};
 
 use db_kernel::kernel::Kernel;
 use dbm_script::{LineBuf, reply_text, row_text};
@@ -21,7 +21,7 @@ use mdb_model::bytes::{KeyBuf, ValueBuf};
 use mdb_model::name::{Session, Table};
 use mdb_model::script::{Next, Reply};
 
-// Says the reply behind so many items, by one call.
+// Says the reply after so many items, by one call.
 fn say_end<H: Host>(host: &mut H, items: u64, reply: &Reply) -> Result<(), Failed>
     ensures speaks { H.tells → Speaks (H.disk host.old) (H.disk host.new)
         (line_of (reply_words items reply.now)) }
@@ -62,44 +62,82 @@ fn say_row<H: Host>(host: &mut H, key: &KeyBuf, value: &ValueBuf) -> Result<(), 
     host.say(text.as_slice())
 }
 
-// Says the next row of a scan, and goes on to its key; false where there is none.
+// Says the next row of a scan, and goes on to its key.
 fn say_next<H: Host>(
     kernel: &mut Kernel,
     host: &mut H,
     session: Session,
     table: Table,
     after: &mut KeyBuf,
-) -> Result<bool, Failed>
+) -> Result<Next, Failed>
     requires session { IsTrue (is_session session.0) }
     requires table { IsTrue (is_table table.0) }
-    ensures same { IsAsBefore kernel.old.database kernel.new.database }
-    ensures key { IfOk result (λ more. IsNextKey more
-        (next_row (scanned_rows kernel.old.database session) table.0 after.old.items)
-        after.new.items) }
-    ensures speaks { H.tells → Speaks (H.disk host.old) (H.disk host.new)
-        (text_of_row (next_row (scanned_rows kernel.old.database session) table.0
-        after.old.items)) }
-    ensures said { OnOk result (H.tells → (H.disk host.new).said (H.disk host.new).now
-        ≡ (H.disk host.old).said (H.disk host.old).now
-        ++ text_of_row (next_row (scanned_rows kernel.old.database session) table.0
-        after.old.items)) }
-    ensures faults { H.faults host.new ≡ H.faults host.old }
+    requires ready { Ready kernel.old.database }
+    requires meets { H.tells → Meets kernel.old.database (H.disk host.old).seen }
+    ensures ready { Ready kernel.new.database }
+    ensures meets { H.tells → Meets kernel.new.database (H.disk host.new).seen }
+    ensures keeps { H.tells → Keeps (H.disk host.old) (H.disk host.new) }
+    ensures says { H.tells → (ws : List World)
+        → FitsWorlds kernel.old.database (H.disk host.old) ws
+        → LeavesOnly page_reading StandsFor (H.disk host.old) ws
+        → SaysNext (H.disk host.old) (H.disk host.new) ws kernel.old.database kernel.new.database
+        session (scanned_rows kernel.old.database session) table after.old.items after.new.items
+        result }
+    ensures later { H.faults host.old ≤ H.faults host.new }
+    ensures cause { IfOk result (λ next. FaultHasCause (H.faults host.old) (H.faults host.new)
+        kernel.new.database next) }
     ensures say_cause { HasCause (H.say_faults host.old) (H.say_faults host.new) result }
 {
     let mut key = KeyBuf::new();
     let mut value = ValueBuf::new();
-    match kernel.scan_next(session, table, after, &mut key, &mut value) {
+    match kernel.scan_next(host, session, table, after, &mut key, &mut value) {
         Next::Row => {
             say_row(host, &key, &value)?;
             *after = key;
-            Ok(true)
+            Ok(Next::Row)
         }
-        // Rows in memory meet no fault.
-        Next::End | Next::Fault(_) => Ok(false),
+        Next::End => Ok(Next::End),
+        Next::Fault(reply) => Ok(Next::Fault(reply)),
     }
 }
 
-/// Says the rows of a scan that is open, and the reply that counts them.
+// Says the rows of a scan that is open. It gives how many they are, and the reply that is to end
+// them: that these are all, or why the next one could not be read.
+fn say_rows<H: Host>(
+    kernel: &mut Kernel,
+    host: &mut H,
+    session: Session,
+    table: Table,
+) -> Result<(u64, Reply), Failed>
+    requires session { IsTrue (is_session session.0) }
+    requires table { IsTrue (is_table table.0) }
+    requires ready { Ready kernel.old.database }
+    requires meets { H.tells → Meets kernel.old.database (H.disk host.old).seen }
+    ensures ready { Ready kernel.new.database }
+    ensures meets { H.tells → Meets kernel.new.database (H.disk host.new).seen }
+    ensures keeps { H.tells → Keeps (H.disk host.old) (H.disk host.new) }
+    ensures says { H.tells → (ws : List World)
+        → IsOpenScan (H.disk host.old) ws kernel.old.database session table
+        → SaysRows (H.disk host.old) (H.disk host.new) (H.faults host.old) (H.faults host.new) ws
+        (rows_of (scanned_rows kernel.old.database session) table.0) kernel.new.database result }
+    ensures later { H.faults host.old ≤ H.faults host.new }
+    ensures say_cause { HasCause (H.say_faults host.old) (H.say_faults host.new) result }
+{
+    let mut after = KeyBuf::new();
+    let mut rows: u64 = 0;
+    // Where the host tells what it holds there are fewer rows.
+    while rows < u64::MAX {
+        match say_next(kernel, host, session, table, &mut after)? {
+            Next::Row => rows += 1,
+            Next::End => return Ok((rows, Reply::ScanOpen)),
+            Next::Fault(reply) => return Ok((rows, reply)),
+        }
+    }
+    Ok((rows, Reply::ScanOpen))
+}
+
+/// Says the rows of a scan that is open, and the reply that counts them; or, where a row cannot be
+/// read, the rows before it and why.
 pub fn say_scan<H: Host>(
     kernel: &mut Kernel,
     host: &mut H,
@@ -108,24 +146,18 @@ pub fn say_scan<H: Host>(
 ) -> Result<(), Failed>
     requires session { IsTrue (is_session session.0) }
     requires table { IsTrue (is_table table.0) }
-    requires few { length (rows_of (scanned_rows kernel.old.database session) table.0) < 2 ^ 64 }
-    ensures same { IsAsBefore kernel.old.database kernel.new.database }
+    requires ready { Ready kernel.old.database }
+    requires meets { H.tells → Meets kernel.old.database (H.disk host.old).seen }
+    ensures ready { Ready kernel.new.database }
+    ensures meets { H.tells → Meets kernel.new.database (H.disk host.new).seen }
     ensures keeps { H.tells → Keeps (H.disk host.old) (H.disk host.new) }
-    ensures seen { H.tells → Agree (H.disk host.old).seen (H.disk host.new).seen }
-    ensures speaks { H.tells → HasKeys (scanned_rows kernel.old.database session)
-        → Speaks (H.disk host.old) (H.disk host.new)
-        (text_of (scan_answer (scanned_rows kernel.old.database session) table ScanOpen)) }
-    ensures said { OnOk result (H.tells → HasKeys (scanned_rows kernel.old.database session)
-        → (H.disk host.new).said (H.disk host.new).now
-        ≡ (H.disk host.old).said (H.disk host.old).now
-        ++ text_of (scan_answer (scanned_rows kernel.old.database session) table ScanOpen)) }
-    ensures faults { H.faults host.new ≡ H.faults host.old }
+    ensures says { H.tells → (ws : List World)
+        → IsOpenScan (H.disk host.old) ws kernel.old.database session table
+        → SaysScan (H.disk host.old) (H.disk host.new) (H.faults host.old) (H.faults host.new) ws
+        (rows_of (scanned_rows kernel.old.database session) table.0) kernel.new.database result }
+    ensures later { H.faults host.old ≤ H.faults host.new }
     ensures say_cause { HasCause (H.say_faults host.old) (H.say_faults host.new) result }
 {
-    let mut after = KeyBuf::new();
-    let mut rows: u64 = 0;
-    while say_next(kernel, host, session, table, &mut after)? {
-        rows += 1;
-    }
-    say_end(host, rows, &Reply::ScanOpen)
+    let (rows, reply) = say_rows(kernel, host, session, table)?;
+    say_end(host, rows, &reply)
 }

@@ -1,31 +1,18 @@
-use Rattle.std.proofs.Common.{◌≡◌, subst, ap, ◌∙◌, ◌++◌, Some}
-use Rattle.mdb_host.proofs.Moments.{on_ok, keeps_on, same_image}
+use Rattle.std.proofs.Common.{◌≡◌, sym, subst, ap, ◌∙◌, ◌++◌, Some}
+use Rattle.mdb_host.proofs.Moments.{on_ok, keeps_on}
 use Rattle.mdb_model.specs.declared.script.Command.{Command}
-use Rattle.mdb_model.specs.declared.script.Command.TheVariants.{ScanTable}
 use Rattle.mdb_model.specs.declared.script.Reply.{Reply}
-use Rattle.mdb_model.specs.declared.script.Reply.TheVariants.{ScanOpen}
 use Rattle.mdb_model.specs.Answers.{Answer, plain}
-use Rattle.mdb_model.specs.Images.{Image}
 use Rattle.mdb_model.specs.Text.{text_of}
-use Rattle.standing.specs.Standing.{Stands}
-use Rattle.db_kernel.specs.Kept.{Meets, FitsWorlds, AreKeyed, answer_of, scanned_rows}
-use Rattle.session_rows.specs.Replies.{scan_answer}
+use Rattle.db_kernel.specs.Kept.{FitsWorlds, AreKeyed, AreFew, answer_of, scanned_rows}
 use Rattle.db_kernel.specs.Stretch.{Completes}
-use Rattle.session_rows.specs.Serving.{no_pages}
-use Rattle.db_kernel.proofs.Staying.{ready_on, meets_on}
-use Rattle.script_run.proofs.ScanRows.{completes_on}
-use Rattle.script_run.proofs.Caused.{LineCauses}
+use Rattle.mdb_model.specs.Steps.{rows_of}
+use Rattle.script_run.specs.Progress.{DoesLine}
+use Rattle.script_run.specs.Scans.{IsOpenScan}
+use Rattle.script_run.proofs.ScanLines.{scan_line}
 use Rattle.script_run.proofs.Outcomes.{does_line, command_causes, other_scan, other_command}
 use Rattle.script_run.proofs.run.answer_command.Goals as goal
-
-pub returns-in-ScanOpen-clause-ready : goal.returns-in-ScanOpen-clause-ready
-returns-in-ScanOpen-clause-ready g c = ready_on c.command-reply.new.self.database c.say_scan.new.kernel.database c.say_scan.ensures.same c.command-reply.ensures.takes.ready
-
-pub returns-in-ScanOpen-clause-meets : goal.returns-in-ScanOpen-clause-meets
-returns-in-ScanOpen-clause-meets g c told =
-    let seen = (g.H.Host.disk c.say_scan.new.host).seen in
-    meets_on c.command-reply.new.self.database c.say_scan.new.kernel.database c.say_scan.ensures.same seen
-    (subst (λ (image : Image). Meets c.command-reply.new.self.database image) (same_image (g.H.Host.disk c.command-reply.new.host).seen seen (c.say_scan.ensures.seen told)) (c.command-reply.ensures.takes.meets told))
+use Rattle.db_kernel.specs.Outside.{page_reading, StandsFor}
 
 pub returns-in-ScanOpen-clause-keeps : goal.returns-in-ScanOpen-clause-keeps
 returns-in-ScanOpen-clause-keeps g c told =
@@ -36,19 +23,22 @@ returns-in-ScanOpen-clause-does g c told ws fit stand =
     let d0 = g.H.Host.disk c.args.host.now in
     let d1 = g.H.Host.disk c.command-reply.new.host in
     let d2 = g.H.Host.disk c.say_scan.new.host in
+    let f0 = g.H.Host.faults c.args.host.now in
+    let f1 = g.H.Host.faults c.command-reply.new.host in
+    let f2 = g.H.Host.faults c.say_scan.new.host in
     let database = c.command-reply.new.self.database in
     let session = c.in-ScanTable.session in
     let table = c.in-ScanTable.table in
-    let answer = scan_answer (scanned_rows database session) table ScanOpen in
+    let rows = rows_of (scanned_rows database session) table.0 in
     let keyed = subst (λ (line : Command). AreKeyed line database) c.in-ScanTable.is (c.command-reply.ensures.keyed told ws fit) in
-    let answer_is : answer_of c.args.command.now database c.command-reply.result ≡ answer =
-    ap (λ (line : Command). answer_of line database c.command-reply.result) c.in-ScanTable.is ∙ ap (λ (reply : Reply). answer_of (ScanTable session table) database reply) c.in-ScanOpen.is in
-    does_line d0 d1 d2 (g.H.Host.faults c.args.host.now) (g.H.Host.faults c.command-reply.new.host) (g.H.Host.faults c.say_scan.new.host) ws (Some c.args.command.now) answer c.say_scan.new.kernel.database
-    (completes_on d0 d1 ws (Some c.args.command.now) answer database c.say_scan.new.kernel.database c.say_scan.ensures.same (subst (λ (a : Answer). Completes no_pages Stands d0 d1 ws (Some c.args.command.now) a (FitsWorlds database)) answer_is (c.command-reply.ensures.does told ws fit stand)))
-    (subst (λ (reply : Reply). LineCauses d1 (g.H.Host.faults c.args.host.now) (g.H.Host.faults c.command-reply.new.host) ws (Some c.args.command.now) reply) c.in-ScanOpen.is (command_causes d1 (g.H.Host.faults c.args.host.now) (g.H.Host.faults c.command-reply.new.host) ws c.args.kernel.now.database fit c.args.command.now c.command-reply.result
-    c.command-reply.ensures.takes.later c.command-reply.ensures.takes.cause (c.command-reply.ensures.takes.past_end told) (c.command-reply.ensures.takes.in_reach told)))
-    c.say_scan.ensures.faults (c.say_scan.ensures.speaks told keyed) c.say_scan.result
-    (on_ok c.say_scan.result _ (d2.said d2.now ≡ d1.said d1.now ++ text_of answer) (λ said. said told keyed) c.say_scan.ensures.said)
+    let few = subst (λ (line : Command). AreFew line database) c.in-ScanTable.is (c.command-reply.ensures.few told ws fit) in
+    let done = subst (λ (e : Command × Reply). Completes page_reading StandsFor d0 d1 ws (Some e.0) (answer_of e.0 database e.1) (FitsWorlds database d1))
+    (λ i. (c.in-ScanTable.is i, c.in-ScanOpen.is i)) (c.command-reply.ensures.does told ws fit stand) in
+    let seen = stand d0.seen (g.met.H.Host.seen_left c.args.host.now told) in
+    let opened : IsOpenScan d1 done.after database session table = record { fit = done.fit; stand = done.does.stand; keys = keyed; few = few } in
+    subst (λ (line : Command). DoesLine d0 d2 f0 f2 ws (Some line) c.say_scan.new.kernel.database c.say_scan.result) (sym c.in-ScanTable.is)
+    (scan_line d0 d1 d2 f0 f1 f2 c.command-reply.ensures.takes.later c.say_scan.ensures.later ws session table rows (FitsWorlds database d1) done seen.0 seen.1 c.say_scan.new.kernel.database c.say_scan.result
+    (c.say_scan.ensures.says told done.after opened))
 
 pub returns-in_default-reply-clause-does : goal.returns-in_default-reply-clause-does
 returns-in_default-reply-clause-does g c told ws fit stand =
@@ -60,8 +50,8 @@ returns-in_default-reply-clause-does g c told ws fit stand =
     let answer_is : answer_of c.args.command.now database c.command-reply.result ≡ answer =
     ap (λ (line : Command). answer_of line database c.command-reply.result) c.in-ScanTable.is ∙ other_scan c.in-ScanTable.session c.in-ScanTable.table database c.command-reply.result c.in_default-reply.not-ScanOpen in
     does_line d0 d1 d2 (g.H.Host.faults c.args.host.now) (g.H.Host.faults c.command-reply.new.host) (g.H.Host.faults c.say_reply.new.host) ws (Some c.args.command.now) answer database
-    (subst (λ (a : Answer). Completes no_pages Stands d0 d1 ws (Some c.args.command.now) a (FitsWorlds database)) answer_is (c.command-reply.ensures.does told ws fit stand))
-    (command_causes d1 (g.H.Host.faults c.args.host.now) (g.H.Host.faults c.command-reply.new.host) ws c.args.kernel.now.database fit c.args.command.now c.command-reply.result
+    (subst (λ (a : Answer). Completes page_reading StandsFor d0 d1 ws (Some c.args.command.now) a (FitsWorlds database d1)) answer_is (c.command-reply.ensures.does told ws fit stand))
+    (command_causes d0 d1 (g.H.Host.faults c.args.host.now) (g.H.Host.faults c.command-reply.new.host) ws c.args.kernel.now.database fit c.args.command.now c.command-reply.result
     c.command-reply.ensures.takes.later c.command-reply.ensures.takes.cause (c.command-reply.ensures.takes.past_end told) (c.command-reply.ensures.takes.in_reach told)) c.say_reply.ensures.faults (c.say_reply.ensures.speaks told) c.say_reply.result
     (on_ok c.say_reply.result _ (d2.said d2.now ≡ d1.said d1.now ++ text_of answer) (λ said. said told) c.say_reply.ensures.said)
 
@@ -74,7 +64,7 @@ returns-in_default-clause-does g c told ws fit stand =
     let answer = plain c.command-reply.result in
     let answer_is : answer_of c.args.command.now database c.command-reply.result ≡ answer = other_command c.args.command.now database c.command-reply.result c.in_default.not-ScanTable in
     does_line d0 d1 d2 (g.H.Host.faults c.args.host.now) (g.H.Host.faults c.command-reply.new.host) (g.H.Host.faults c.say_reply-in_default.new.host) ws (Some c.args.command.now) answer database
-    (subst (λ (a : Answer). Completes no_pages Stands d0 d1 ws (Some c.args.command.now) a (FitsWorlds database)) answer_is (c.command-reply.ensures.does told ws fit stand))
-    (command_causes d1 (g.H.Host.faults c.args.host.now) (g.H.Host.faults c.command-reply.new.host) ws c.args.kernel.now.database fit c.args.command.now c.command-reply.result
+    (subst (λ (a : Answer). Completes page_reading StandsFor d0 d1 ws (Some c.args.command.now) a (FitsWorlds database d1)) answer_is (c.command-reply.ensures.does told ws fit stand))
+    (command_causes d0 d1 (g.H.Host.faults c.args.host.now) (g.H.Host.faults c.command-reply.new.host) ws c.args.kernel.now.database fit c.args.command.now c.command-reply.result
     c.command-reply.ensures.takes.later c.command-reply.ensures.takes.cause (c.command-reply.ensures.takes.past_end told) (c.command-reply.ensures.takes.in_reach told)) c.say_reply-in_default.ensures.faults (c.say_reply-in_default.ensures.speaks told) c.say_reply-in_default.result
     (on_ok c.say_reply-in_default.result _ (d2.said d2.now ≡ d1.said d1.now ++ text_of answer) (λ said. said told) c.say_reply-in_default.ensures.said)

@@ -11,7 +11,7 @@ returns-in_err-refuse-clause-turned g c told ws fit stand =
     turned_err d0 (g.H.Host.disk c.refuse.new.host) (g.H.Host.faults c.args.host.now) (g.H.Host.faults c.refuse.new.host) ws (λ (text : List ℕ). 8192 < length text) c.args.kernel.now.database c.from_residual.result c.from_residual.ensures.0 (
       None,
       λ text long. (too_long-answered text long, too_long-Reads text long),
-      c.in_err-refuse.ensures.does told ws None (syntax_answered d0 ws (FitsWorlds c.args.kernel.now.database) fit stand),
+      c.in_err-refuse.ensures.does told ws None (syntax_answered d0 ws (FitsWorlds c.args.kernel.now.database (g.H.Host.disk c.args.host.now)) fit stand),
     )
 
 pub returns-clause-turned : goal.returns-clause-turned
@@ -19,5 +19,5 @@ returns-clause-turned g c told ws fit stand =
     let d0 = g.H.Host.disk c.args.host.now in (
       None,
       λ text long. (too_long-answered text long, too_long-Reads text long),
-      c.in_ok-refuse.ensures.does told ws None (syntax_answered d0 ws (FitsWorlds c.args.kernel.now.database) fit stand),
+      c.in_ok-refuse.ensures.does told ws None (syntax_answered d0 ws (FitsWorlds c.args.kernel.now.database (g.H.Host.disk c.args.host.now)) fit stand),
     )

@@ -4,15 +4,15 @@ use Rattle.mdb_model.specs.Runs.{last_worlds}
 use Rattle.db_kernel.specs.declared.kernel.Kernel.{Kernel}
 use Rattle.mdb_model.specs.Agreement.{Ages}
 use Rattle.mdb_model.specs.Worlds.{World}
-use Rattle.standing.specs.Standing.{Stands}
 use Rattle.db_kernel.specs.declared.database.Database.{Database}
 use Rattle.db_kernel.specs.Kept.{Ready, Meets, FitsWorlds}
-use Rattle.session_rows.specs.Serving.{no_pages}
+use Rattle.db_kernel.proofs.Fitting.{fits_off}
 use Rattle.script_run.specs.Progress.{IsLineText, weight_in, Progress, HandlesLine}
 use Rattle.script_run.proofs.Calls.{memory_keeps}
 use Rattle.script_run.proofs.Progressing.{progress_first, progress_turned, ends_done, ends_script, ends_limit, ends_say}
 use Rattle.script_run.proofs.Turns.{start_stand, start_rest, start_serial}
 use Rattle.script_run.proofs.run.run_script.Goals as goal
+use Rattle.db_kernel.specs.Outside.{page_reading, StandsFor}
 
 pub returns-in_default-clause-promise : goal.returns-in_default-clause-promise
 returns-in_default-clause-promise g c told = memory_keeps (g.H.Host.disk c.args.host.now) (g.H.Host.faults c.args.host.now) (g.S.Source.left c.args.source.now)
@@ -31,7 +31,7 @@ loop-count-init g c =
       say_faults = omega arith;
       script = omega arith;
       progress = λ told ws off stand.
-          progress_first d f ws c.new-kernel.result.database c.in-Ok.reader (g.S.Source.left c.args.source.now) c.in-Ok.ensures (subst (λ (o : Option Database). FitsWorlds o ws) (sym none) off) stand;
+          progress_first d f ws c.new-kernel.result.database c.in-Ok.reader (g.S.Source.left c.args.source.now) c.in-Ok.ensures (subst (λ (o : Option Database). FitsWorlds o d ws) (sym none) (fits_off d ws off)) stand;
     }
 
 pub returns-in_default-advance-clause-promise : goal.returns-in_default-advance-clause-promise
@@ -39,9 +39,9 @@ returns-in_default-advance-clause-promise g c told from can =
     let d0 = g.H.Host.disk c.args.host.now in
     let d1 = g.H.Host.disk c.loop-count.host in
     let inv = c.loop-count.invariant in
-    ends_script from (start_serial no_pages Stands d0 from can) d0 d1 (g.H.Host.faults c.args.host.now) (g.H.Host.faults c.loop-count.host) c.loop-count.kernel.database c.loop-count.reader
+    ends_script from (start_serial page_reading StandsFor d0 from can) d0 d1 (g.H.Host.faults c.args.host.now) (g.H.Host.faults c.loop-count.host) c.loop-count.kernel.database c.loop-count.reader
     (g.S.Source.left c.args.source.now) (g.S.Source.left c.loop-count.source) c.loop-count.count
-    (inv.progress told (map (λ (e : World × Ages). e.0) from) (start_rest no_pages Stands d0 from can) (start_stand no_pages Stands d0 from can)) inv.count
+    (inv.progress told (map (λ (e : World × Ages). e.0) from) (start_rest page_reading StandsFor d0 from can) (start_stand page_reading StandsFor d0 from can)) inv.count
     c.advance.new.self (g.S.Source.left c.advance.new.source) _ c.in_default-advance.ensures.advances
 
 pub returns-then-is_end-clause-promise : goal.returns-then-is_end-clause-promise
@@ -49,9 +49,9 @@ returns-then-is_end-clause-promise g c told from can =
     let d0 = g.H.Host.disk c.args.host.now in
     let d1 = g.H.Host.disk c.loop-count.host in
     let inv = c.loop-count.invariant in
-    ends_done from (start_serial no_pages Stands d0 from can) d0 d1 (g.H.Host.faults c.args.host.now) (g.H.Host.faults c.loop-count.host) c.loop-count.kernel.database c.loop-count.reader
+    ends_done from (start_serial page_reading StandsFor d0 from can) d0 d1 (g.H.Host.faults c.args.host.now) (g.H.Host.faults c.loop-count.host) c.loop-count.kernel.database c.loop-count.reader
     (g.S.Source.left c.args.source.now) (g.S.Source.left c.loop-count.source) c.loop-count.count
-    (inv.progress told (map (λ (e : World × Ages). e.0) from) (start_rest no_pages Stands d0 from can) (start_stand no_pages Stands d0 from can)) inv.count
+    (inv.progress told (map (λ (e : World × Ages). e.0) from) (start_rest page_reading StandsFor d0 from can) (start_stand page_reading StandsFor d0 from can)) inv.count
     c.advance.new.self (g.S.Source.left c.advance.new.source) c.in-Ok-advance.kind (sym c.if-is_end.ensures) c.in-Ok-advance.ensures.advances
 
 pub returns-then-count-gt-MOST_LINES-clause-promise : goal.returns-then-count-gt-MOST_LINES-clause-promise
@@ -59,9 +59,9 @@ returns-then-count-gt-MOST_LINES-clause-promise g c told from can =
     let d0 = g.H.Host.disk c.args.host.now in
     let d1 = g.H.Host.disk c.loop-count.host in
     let inv = c.loop-count.invariant in
-    ends_limit from (start_serial no_pages Stands d0 from can) d0 d1 (g.H.Host.faults c.args.host.now) (g.H.Host.faults c.loop-count.host) c.loop-count.kernel.database c.loop-count.reader
+    ends_limit from (start_serial page_reading StandsFor d0 from can) d0 d1 (g.H.Host.faults c.args.host.now) (g.H.Host.faults c.loop-count.host) c.loop-count.kernel.database c.loop-count.reader
     (g.S.Source.left c.args.source.now) (g.S.Source.left c.loop-count.source) c.loop-count.count
-    (inv.progress told (map (λ (e : World × Ages). e.0) from) (start_rest no_pages Stands d0 from can) (start_stand no_pages Stands d0 from can)) inv.count
+    (inv.progress told (map (λ (e : World × Ages). e.0) from) (start_rest page_reading StandsFor d0 from can) (start_stand page_reading StandsFor d0 from can)) inv.count
     c.advance.new.self (g.S.Source.left c.advance.new.source) c.in-Ok-advance.kind (sym c.if-is_end.ensures) c.in-Ok-advance.ensures.advances
     (omega (arith, c.if-count-gt-MOST_LINES.true, c.weight-count.ensures))
 
@@ -86,8 +86,8 @@ loop-count-preserved g c =
       progress = λ told ws off stand.
           let p = inv.progress told ws off stand in
           let small : weight_in c.in-Ok-advance.kind ≤ 16777216 = omega (arith, c.if-count-gt-MOST_LINES.false, c.weight-count.ensures) in
-          let turned = subst (λ (f : List ℕ). HandlesLine d1 d2 f1 (g.H.Host.faults c.answer.new.host) (last_worlds no_pages ws p.served.run) (IsLineText c.in-Ok-advance.kind f) c.answer.new.kernel.database (Ok c.in-Ok-answer.field-0)) c.text.ensures
-          (c.in-Ok-answer.ensures.turned told (last_worlds no_pages ws p.served.run) p.served.fit p.served.stand) in
+          let turned = subst (λ (f : List ℕ). HandlesLine d1 d2 f1 (g.H.Host.faults c.answer.new.host) (last_worlds page_reading ws p.served.run) (IsLineText c.in-Ok-advance.kind f) c.answer.new.kernel.database (Ok c.in-Ok-answer.field-0)) c.text.ensures
+          (c.in-Ok-answer.ensures.turned told (last_worlds page_reading ws p.served.run) p.served.fit p.served.stand) in
           subst (λ (n : ℕ). Progress d0 d2 f0 (g.H.Host.faults c.answer.new.host) ws c.answer.new.kernel.database c.advance.new.self left0 left2 n) (λ i. c.loop-count.count + sym c.weight-count.ensures i)
           (progress_turned d0 d1 f0 f1 ws c.loop-count.kernel.database c.loop-count.reader left0 (g.S.Source.left c.loop-count.source) c.loop-count.count p
           c.in-Ok-advance.kind c.advance.new.self left2 (sym c.if-is_end.ensures) c.in-Ok-advance.ensures.advances small
@@ -110,10 +110,10 @@ returns-in_default-answer-clause-promise g c told from can =
     let f1 = g.H.Host.faults c.loop-count.host in
     let inv = c.loop-count.invariant in
     let worlds = map (λ (e : World × Ages). e.0) from in
-    let p = inv.progress told worlds (start_rest no_pages Stands d0 from can) (start_stand no_pages Stands d0 from can) in
-    let turned = subst (λ (f : List ℕ). HandlesLine d1 d2 f1 (g.H.Host.faults c.answer.new.host) (last_worlds no_pages worlds p.served.run) (IsLineText c.in-Ok-advance.kind f) c.answer.new.kernel.database (Err _)) c.text.ensures
-    (c.in_default-answer.ensures.turned told (last_worlds no_pages worlds p.served.run) p.served.fit p.served.stand) in
-    ends_say from (start_serial no_pages Stands d0 from can) d0 d1 (g.H.Host.faults c.args.host.now) f1 c.loop-count.kernel.database c.loop-count.reader
+    let p = inv.progress told worlds (start_rest page_reading StandsFor d0 from can) (start_stand page_reading StandsFor d0 from can) in
+    let turned = subst (λ (f : List ℕ). HandlesLine d1 d2 f1 (g.H.Host.faults c.answer.new.host) (last_worlds page_reading worlds p.served.run) (IsLineText c.in-Ok-advance.kind f) c.answer.new.kernel.database (Err _)) c.text.ensures
+    (c.in_default-answer.ensures.turned told (last_worlds page_reading worlds p.served.run) p.served.fit p.served.stand) in
+    ends_say from (start_serial page_reading StandsFor d0 from can) d0 d1 (g.H.Host.faults c.args.host.now) f1 c.loop-count.kernel.database c.loop-count.reader
     (g.S.Source.left c.args.source.now) (g.S.Source.left c.loop-count.source) c.loop-count.count p inv.count
     c.advance.new.self (g.S.Source.left c.advance.new.source) c.in-Ok-advance.kind (sym c.if-is_end.ensures) c.in-Ok-advance.ensures.advances
     (omega (arith, c.if-count-gt-MOST_LINES.false, c.weight-count.ensures)) (omega (arith, c.if-count-gt-MOST_LINES.false, c.weight-count.ensures))

@@ -1,12 +1,11 @@
 use Rattle.std.proofs.Common.{◌-◌, ◌≤◌, List}
 use Rattle.mdb_host.specs.Disk.{Keeps}
 use Rattle.mdb_model.specs.Worlds.{World}
-use Rattle.standing.specs.Standing.{Stands}
 use Rattle.db_kernel.specs.Kept.{AreOff, Ready, Meets}
 use Rattle.db_kernel.specs.Stretch.{LeavesOnly}
-use Rattle.session_rows.specs.Serving.{no_pages}
 use Rattle.script_run.specs.Progress.{Progress}
 use Rattle.script_run.proofs.run.run_script.Given as goal
+use Rattle.db_kernel.specs.Outside.{page_reading, StandsFor}
 
 abbrev pub invariant-loop-count : goal.invariant-loop-count
 invariant-loop-count g l = record {
@@ -17,7 +16,7 @@ invariant-loop-count g l = record {
   faults : g.H.Host.faults l.fn.host ≤ g.H.Host.faults l.host;
   say_faults : g.H.Host.say_faults l.fn.host ≤ g.H.Host.say_faults l.host;
   script : g.S.Source.faults l.fn.source ≤ g.S.Source.faults l.source;
-  progress : g.H.Host.tells → (ws : List World) → AreOff ws → LeavesOnly no_pages Stands (g.H.Host.disk l.fn.host) ws
+  progress : g.H.Host.tells → (ws : List World) → AreOff ws → LeavesOnly page_reading StandsFor (g.H.Host.disk l.fn.host) ws
       → Progress (g.H.Host.disk l.fn.host) (g.H.Host.disk l.host) (g.H.Host.faults l.fn.host) (g.H.Host.faults l.host) ws l.kernel.database l.reader
       (g.S.Source.left l.fn.source) (g.S.Source.left l.source) l.count;
 }

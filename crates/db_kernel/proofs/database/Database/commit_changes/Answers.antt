@@ -11,7 +11,7 @@ use Rattle.mdb_model.specs.declared.script.Reply.TheVariants.{Committed}
 use Rattle.mdb_model.specs.Answers.{plain, refused}
 use Rattle.mdb_model.specs.Sessions.{group_bytes}
 use Rattle.mdb_model.specs.Tables.{with_changes}
-use Rattle.standing.specs.Standing.{Creation, Stands}
+use Rattle.standing.specs.Standing.{Creation}
 use Rattle.redo_ring.specs.declared.fault.RingFault.{RingFault}
 use Rattle.redo_ring.specs.declared.ring.Ring.{Ring}
 use Rattle.redo_ring.specs.Calls.{AppendAnswer, Untouched}
@@ -19,10 +19,10 @@ use Rattle.redo_ring.specs.Ring.{Appends, Appended}
 use Rattle.transactions.specs.Ongoing.{Ongoing, changes_of, EndsTransaction}
 use Rattle.db_kernel.specs.Sessions.{IsOpen}
 use Rattle.db_kernel.specs.Stretch.{Completes}
-use Rattle.session_rows.specs.Serving.{no_pages}
 use Rattle.db_kernel.specs.Kept.{creation_of}
 use Rattle.db_kernel.proofs.Moving.{completes, commit_none, commit_starved, commit_is_full, commit_in_doubt, commit_open}
 use Rattle.db_kernel.proofs.database.Database.commit_changes.Goals as goal
+use Rattle.db_kernel.specs.Outside.{page_reading, StandsFor}
 
 -- something is to be committed
 some : (n m : ℕ) → n ≡ m → (n ≡ 0 → ⊥) → (m == 0) ≡ false
@@ -72,9 +72,9 @@ returns-in-Err-Full-clause-does g c told ws holds fit stand =
     let untouched = subst (λ (f : RingFault). Untouched (Err f) (c.log_changes.new.host ≡ c.args.host.now)) c.in-Err-Full.field-0-is c.in-Err-Full.ensures.untouched in
     let same : r ≡ d.ring = c.in-Err-Full.ensures.err in
     let unsaved : d.ring.end_position - d.ring.saved_position ≡ d.ring.end_position = omega (arith, holds.saved) in
-    subst (λ h. Completes no_pages Stands d0 (g.H.Host.disk h) ws (Some (CommitWork c.args.session)) (refused c.log_full.result) (IsOpen c.reserve.new.self.rows c.give_back.new.self (with_blocks d.blocks r) r.end_position r.last_commit)) (sym untouched)
-    (subst (λ (f : Refusal). Completes no_pages Stands d0 d0 ws (Some (CommitWork c.args.session)) (refused f) (IsOpen c.reserve.new.self.rows c.give_back.new.self (with_blocks d.blocks r) r.end_position r.last_commit)) (sym c.log_full.ensures)
-    (subst (λ (x : Ring). Completes no_pages Stands d0 d0 ws (Some (CommitWork c.args.session)) (refused (LogFull (x.end_position - x.saved_position) x.size)) (IsOpen c.reserve.new.self.rows c.give_back.new.self (with_blocks d.blocks x) x.end_position x.last_commit)) (sym same)
+    subst (λ h. Completes page_reading StandsFor d0 (g.H.Host.disk h) ws (Some (CommitWork c.args.session)) (refused c.log_full.result) (IsOpen c.reserve.new.self.rows c.give_back.new.self (with_blocks d.blocks r) r.end_position r.last_commit)) (sym untouched)
+    (subst (λ (f : Refusal). Completes page_reading StandsFor d0 d0 ws (Some (CommitWork c.args.session)) (refused f) (IsOpen c.reserve.new.self.rows c.give_back.new.self (with_blocks d.blocks r) r.end_position r.last_commit)) (sym c.log_full.ensures)
+    (subst (λ (x : Ring). Completes page_reading StandsFor d0 d0 ws (Some (CommitWork c.args.session)) (refused (LogFull (x.end_position - x.saved_position) x.size)) (IsOpen c.reserve.new.self.rows c.give_back.new.self (with_blocks d.blocks x) x.end_position x.last_commit)) (sym same)
     (completes d0 ws (Some (CommitWork c.args.session)) (refused (LogFull (d.ring.end_position - d.ring.saved_position) d.ring.size)) (IsOpen c.reserve.new.self.rows c.give_back.new.self (creation_of d) d.ring.end_position d.ring.last_commit)
     (commit_is_full d.rows.rows d.transactions (creation_of d) d.ring.end_position d.ring.last_commit ws fit c.reserve.new.self.rows c.give_back.new.self c.reserve.ensures.rows c.args.session c.requires.session
     (some c.changed.result (len (changes_of d.transactions c.args.session.0)) c.changed.ensures.count c.if-changed-eq0.false) (d.ring.end_position - d.ring.saved_position) d.ring.size unsaved refl (c.give_back.ensures ∙ c.listed.ensures.same) (omega (arith, answer.2, unsaved, ap group_bytes (c.deref.ensures.value ∙ c.in-Ok-listed.ensures.value)))) stand)))
@@ -99,7 +99,7 @@ returns-clause-does g c told ws holds fit stand =
     let ok = c.in-Ok-log_changes.ensures.ok in
     let further : r.end_position ≡ d.ring.end_position + group_bytes c.deref.result.now = ap (λ (x : Ring). x.end_position) ok in
     let ring : c.settle.new.self.ring ≡ r = c.settle.ensures.ring in
-    subst (λ (x : Ring). Completes no_pages Stands d0 d1 ws (Some (CommitWork c.args.session)) (plain (Committed x.last_commit)) (IsOpen c.settle.new.self.rows.rows c.settle.new.self.transactions (with_blocks c.settle.new.self.blocks x) x.end_position x.last_commit)) (sym ring)
+    subst (λ (x : Ring). Completes page_reading StandsFor d0 d1 ws (Some (CommitWork c.args.session)) (plain (Committed x.last_commit)) (IsOpen c.settle.new.self.rows.rows c.settle.new.self.transactions (with_blocks c.settle.new.self.blocks x) x.end_position x.last_commit)) (sym ring)
     (commit_open d.rows.rows d.transactions (creation_of d) d.ring.end_position d.ring.last_commit ws fit c.args.session c.requires.session
     (some c.changed.result (len (changes_of d.transactions c.args.session.0)) c.changed.ensures.count c.if-changed-eq0.false) (omega (arith, c.in-Ok-log_changes.ensures.answer.0, holds.saved, bytes)) d0 d1 stand
     (subst (λ (cs : List Change). Goes d0 d1 (Appends d.ring.size d.ring.name d.ring.end_position d.ring.last_commit cs)) (c.deref.ensures.value ∙ c.in-Ok-listed.ensures.value) (c.log_changes.ensures.any_moment told))

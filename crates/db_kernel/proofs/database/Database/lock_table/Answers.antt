@@ -6,6 +6,9 @@ use Rattle.mdb_model.specs.declared.script.Command.TheVariants.{ScanTable}
 use Rattle.transactions.specs.Ongoing.{changes_of}
 use Rattle.session_rows.specs.Replies.{scan_answer}
 use Rattle.session_rows.specs.Scan.{seen_rows}
+use Rattle.session_rows.specs.Serving.{IsServed}
+use Rattle.session_rows.proofs.AnyPages.{answered_read}
+use Rattle.db_kernel.specs.Outside.{page_reading}
 use Rattle.db_kernel.specs.Kept.{creation_of}
 use Rattle.db_kernel.specs.Working.{working}
 use Rattle.db_kernel.proofs.Moving.{served, answered_moves}
@@ -19,7 +22,8 @@ returns-clause-moves c ws at =
     let new = c.open_scan.new.transactions in
     answered_moves d.rows.rows d.transactions (creation_of d) d.ring.end_position d.ring.last_commit ws at d.rows.rows new (ScanTable c.args.session c.args.table)
     (scan_answer (seen_rows d.rows.rows new c.args.session.0) c.args.table c.open_scan.result)
-    (c.open_scan.ensures.answered d.rows.rows (working (creation_of d) at.commits at.sessions) (served d.rows.rows d.transactions (creation_of d) d.ring.end_position d.ring.last_commit ws at))
+    (answered_read page_reading (ScanTable c.args.session c.args.table) tt (working (creation_of d) at.commits at.sessions) (scan_answer (seen_rows d.rows.rows new c.args.session.0) c.args.table c.open_scan.result) (IsServed d.rows.rows new)
+    (c.open_scan.ensures.answered d.rows.rows (working (creation_of d) at.commits at.sessions) (served d.rows.rows d.transactions (creation_of d) d.ring.end_position d.ring.last_commit ws at)))
 
 pub returns-clause-few : goal.returns-clause-few
 returns-clause-few c =

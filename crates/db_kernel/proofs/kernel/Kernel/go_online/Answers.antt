@@ -2,11 +2,12 @@ use Rattle.std.proofs.Common.{subst, Some, Option}
 use Rattle.mdb_model.specs.declared.script.Command.TheVariants.{DbOnline}
 use Rattle.mdb_model.specs.Answers.{plain}
 use Rattle.db_kernel.specs.declared.database.Database.{Database}
-use Rattle.db_kernel.specs.Kept.{FitsWorlds, FitsOpen}
+use Rattle.db_kernel.specs.Kept.{FitsWorlds, HasWorlds, FitsOpen}
 use Rattle.db_kernel.proofs.Moving.{completes}
 use Rattle.db_kernel.proofs.kernel.Kernel.go_online.Goals as goal
 
 pub returns-in-Some-clause-does : goal.returns-in-Some-clause-does
+unfolding FitsWorlds
 returns-in-Some-clause-does g c told ws fit stand =
     completes (g.H.Host.disk c.args.host.now) ws (Some DbOnline) (plain c.go_online.result) (FitsOpen c.go_online.new.self)
-    (c.go_online.ensures.moves ws (subst (λ (o : Option Database). FitsWorlds o ws) c.in-Some.is fit)) stand
+    (c.go_online.ensures.moves ws (subst (λ (o : Option Database). HasWorlds o ws) c.in-Some.is fit)) stand

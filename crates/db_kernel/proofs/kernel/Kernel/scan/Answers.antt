@@ -1,4 +1,4 @@
-use Rattle.std.proofs.Common.{refl, sym, subst, ℕ, ◌<◌, ◌^◌, List, [], Option, length, arith}
+use Rattle.std.proofs.Common.{refl, sym, subst, ℕ, ◌+◌, ◌<◌, ◌^◌, List, [], Option, length, arith}
 use Rattle.std.specs.FinMap.{empty, len-empty, get-empty}
 use Rattle.mdb_model.specs.Tables.{place_cmp}
 use Rattle.mdb_model.specs.Steps.{rows_of}
@@ -15,7 +15,7 @@ returns-in-None-clause-moves c ws fit = kernel_off c.args.self.now.database c.in
 
 pub returns-in-None-clause-few : goal.returns-in-None-clause-few
 returns-in-None-clause-few c =
-    subst (λ (o : Option Database). length (rows_of (scanned_rows o c.args.session) c.args.table.0) < 2 ^ 64) (sym c.in-None.is)
+    subst (λ (o : Option Database). length (rows_of (scanned_rows o c.args.session) c.args.table.0) + 1 < 2 ^ 64) (sym c.in-None.is)
     (omega (arith, some_rows empty c.args.table.0, len-empty place_cmp (List ℕ)))
 
 pub returns-in-None-clause-keyed : goal.returns-in-None-clause-keyed
