@@ -26,7 +26,7 @@ block_same sizes a b agree k = page_agrees a b (Data (place 1 sizes k).0) (place
 module _ (tells : Type 0) (slots : Slots) (r : RestartRecord) (s : Store) (d e : Disk) (seen : AgreeBut Log d.seen e.seen)
     (from : (image : Image) → e.may_leave e.now image → (before : Image) × d.may_leave d.now before × AgreeBut Log before image)
     (can : CanSave tells slots r s d) where
-  known_beside : IsKnown tells s d.seen → IsKnown tells s e.seen
+  pub known_beside : IsKnown tells s d.seen → IsKnown tells s e.seen
   known_beside known = record {
     told = known.told;
     reads = λ q b bytes own some has same frame. block_same s.sizes d.seen e.seen seen b ∙ known.reads q b bytes own some has same frame;

@@ -1,5 +1,6 @@
 pub mod Log
 pub mod Holds
-pub mod Setting
+pub mod SetPoints
 pub mod Savepoints
 pub mod Passing
+pub mod Sets

@@ -1,8 +1,10 @@
 -- What calls leave of what the devices of a ground stand for.
 --     rows_are      the rows that an image shows are those of the world that it stands for
+--     log_stays      calls on pages leave the log volume
 --     calls_keep_worlds, calls_stand, calls_aim, calls_undone      calls on pages and reads of the log
 --     calls_keep_all      all of it
 --     room_rest      the room of commits
+--     at_both      what is so at each moment of two stretches
 --     keeps_still, keeps_further      nothing was done; calls one after the other
 use Rattle.std.proofs.Common.{◌≡◌, ◌⊎◌, inl, inr, sym, ap, subst, ◌∙◌, ℕ, ◌+◌, ◌%◌, ◌^◌, ◌<◌, ◌≤◌, List, [], ◌∷◌, ◌++◌, length, Option, arith}
 use Rattle.std.specs.Prelude.{unwrap_or, option_and_then}
@@ -56,6 +58,10 @@ ring_stays before after same size = λ i position. byte_at (same i) (16384 + pos
 volume_stays : (sizes : List ℕ) (set : ℕ → Type 0) (before after : Image) → Writes sizes set before after → after Log ≡ before Log
 volume_stays sizes set before after writes = writes.others Log (λ i lt is. cc)
 
+-- so calls on pages leave it
+pub log_stays : (tells : Type 0) (s t : Store) (d e : Disk) → KeepsStore tells s t d e → tells → e.seen Log ≡ d.seen Log
+log_stays tells s t d e keeps told = volume_stays s.sizes (MayWrite s) d.seen e.seen (keeps.seen told)
+
 -- the commits that are not set stay where the log volume does
 pub undone_same : (a b : RingReader) (one two : SetPoint) (before after : Image) → after Log ≡ before Log → b.name ≡ a.name → b.size ≡ a.size → two ≡ one → undone_in b two after ≡ undone_in a one before
 unfolding undone_in
@@ -73,7 +79,7 @@ keeps_still d = record {
 }
 
 -- what is so at each moment of two stretches
-at_both : (a b c : Disk) (P : Image → Type 0) → AtEachMoment a b P → AtEachMoment b c P → AtEachMoment a c P
+pub at_both : (a b c : Disk) (P : Image → Type 0) → AtEachMoment a b P → AtEachMoment b c P → AtEachMoment a c P
 at_both a b c P one two = record {
   keeps = keeps_on a b c one.keeps two.keeps;
   quiet = λ t from upto. by_moment t from upto (cases_lt t b.now);

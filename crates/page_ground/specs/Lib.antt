@@ -3,3 +3,4 @@ pub mod LogKnown
 pub mod LogLaws
 pub mod Aims
 pub mod AimLaws
+pub mod SetGroups

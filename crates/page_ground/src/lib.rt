@@ -4,6 +4,8 @@
 mod ground;
 mod saving;
 mod set_point;
+mod setting;
 
 pub use ground::PageGround;
 pub use set_point::SetPoint;
+pub use setting::set_group;

@@ -2,6 +2,7 @@
 ghost use Rattle.std.specs.Prelude.{◌≡◌, ℕ, ◌+◌, ◌≤◌, ◌<◌, ◌^◌, min, OnOk, IfErr, refl};
 ghost use Rattle.std.proofs.Common.{◌∙◌, sym, subst, ap};
 ghost use Rattle.mdb_model.specs.Causes.{HasCause};
+ghost use Rattle.mdb_model.specs.declared.fault.Device.TheVariants.{Log};
 ghost use Rattle.mdb_bytes.specs.declared.restart_record.RestartRecord.{RestartRecord};
 ghost use Rattle.gate_slots.specs.declared.slots.Slots.{Slots};
 ghost use Rattle.page_store.specs.SavingStays.{stays, numbers_left, numbers_same};
@@ -11,9 +12,10 @@ ghost use Rattle.restart.specs.Redone.{IsOnTheWay};
 ghost use Rattle.store_rows.specs.StoredRows.{stored_rows, HasRows};
 ghost use Rattle.standing.specs.Looks.{look};
 ghost use Rattle.kept_worlds.specs.InService.{HasRoomToSet};
-ghost use Rattle.page_ground.specs.LogKnown.{held_in, IsLogKnown};
+ghost use Rattle.page_ground.specs.LogKnown.{held_in, IsLogKnown, ReadsOn};
+ghost use Rattle.page_ground.specs.LogLaws.{reads_itself, reads_further};
 ghost use Rattle.page_ground.specs.Aims.{rows_shown, undone_in, StandsForWorld, KeepsWorlds};
-ghost use Rattle.page_ground.specs.AimLaws.{calls_keep_all, keeps_further, room_rest};
+ghost use Rattle.page_ground.specs.AimLaws.{calls_keep_all, keeps_further, log_stays, room_rest};
 
 use crate::ground::PageGround;
 use crate::set_point::SetPoint;
@@ -61,6 +63,10 @@ impl<'a, H: Host> PageGround<'a, H> {
             ≡ undone_in self.old.reader self.old.set (H.disk self.old.host.now).seen)) }
         ensures reader { self.new.reader ≡ self.old.reader }
         ensures set { self.new.set ≡ self.old.set }
+        ensures reads { ReadsOn H.tells self.old.reader self.new.reader
+            (H.disk self.old.host.now).seen (H.disk self.new.host.now).seen }
+        ensures log { H.tells
+            → (H.disk self.new.host.now).seen Log ≡ (H.disk self.old.host.now).seen Log }
         ensures area { IsSameArea self.old.store.now self.new.store.now }
         ensures names { (self.new.store.ghost_name ≡ self.old.store.ghost_name)
             × (self.new.host.ghost_name ≡ self.old.host.ghost_name)
@@ -99,7 +105,9 @@ impl<'a, H: Host> Ground for PageGround<'a, H> {
         × (b.host.ghost_name ≡ a.host.ghost_name)
         × (b.in_force.ghost_name ≡ a.in_force.ghost_name)
         × (H.say_faults b.host.now ≡ H.say_faults a.host.now)
-        × IsSameArea a.store.now b.store.now };
+        × IsSameArea a.store.now b.store.now
+        × ReadsOn H.tells a.reader b.reader (H.disk a.host.now).seen (H.disk b.host.now).seen
+        × (H.tells → (H.disk b.host.now).seen Log ≡ (H.disk a.host.now).seen Log) };
 
     ghost can_save = { λ s. CanSave H.tells s.in_force.now.slots s.in_force.now.record
         s.store.now (H.disk s.host.now) };
@@ -135,6 +143,8 @@ impl<'a, H: Host> Ground for PageGround<'a, H> {
       f.2,
       f.6,
       record { sizes = f.5.maps.sizes; conv = f.5.maps.conv; area = f.5.maps.area },
+      f.7,
+      log_stays H.tells a.store.now b.store.now (H.disk a.host.now) (H.disk b.host.now) f.5,
     ) };
 
     ghost comes_on = { λ a b c f g. (
@@ -147,6 +157,9 @@ impl<'a, H: Host> Ground for PageGround<'a, H> {
         conv = g.4.conv ∙ f.4.conv;
         area = g.4.area ∙ f.4.area;
       },
+      reads_further H.tells a.reader b.reader c.reader (H.disk a.host.now).seen
+          (H.disk b.host.now).seen (H.disk c.host.now).seen f.5 g.5,
+      λ told. g.6 told ∙ f.6 told,
     ) };
 
     ghost fits_on = { λ a b f commits rows room. subst

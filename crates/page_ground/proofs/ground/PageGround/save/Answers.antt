@@ -1,4 +1,4 @@
-use Rattle.page_ground.proofs.Log.{known_same}
+use Rattle.page_ground.proofs.Log.{known_same, reads_stay}
 use Rattle.page_ground.proofs.Passing.{ok_none}
 use Rattle.page_ground.proofs.Savepoints.{rows_saved, held_saved, save_keeps, save_stands, save_aim, save_undone, in_area}
 use Rattle.page_ground.proofs.ground.PageGround.save.Goals as goal
@@ -34,3 +34,9 @@ returns-clause-kept g c rows stand way =
         save_undone g.H.Host.tells c.args.self.now.in_force.now.slots c.savepoint.new.self.slots c.args.self.now.in_force.now.record c.savepoint.new.self.record c.args.self.now.reader c.args.self.now.set c.args.self.now.store.now c.savepoint.new.store (g.H.Host.disk c.args.self.now.host.now) (g.H.Host.disk c.savepoint.new.host) c.min-commit.result c.min-position.result left left2 c.blocks-before.ensures.sound rows stand way c.min-commit.ensures c.min-position.ensures (c.savepoint.ensures.saves told) log,
       ),
     )
+
+pub returns-in_err-savepoint-clause-reads : goal.returns-in_err-savepoint-clause-reads
+returns-in_err-savepoint-clause-reads g c = reads_stay g.H.Host.tells c.args.self.now.reader (g.H.Host.disk c.args.self.now.host.now).seen (g.H.Host.disk c.savepoint.new.host).seen c.savepoint.ensures.elsewhere
+
+pub returns-clause-reads : goal.returns-clause-reads
+returns-clause-reads g c = reads_stay g.H.Host.tells c.args.self.now.reader (g.H.Host.disk c.args.self.now.host.now).seen (g.H.Host.disk c.savepoint.new.host).seen c.savepoint.ensures.elsewhere

@@ -1,6 +1,6 @@
 use Rattle.std.proofs.Common.{refl, sym}
 use Rattle.page_ground.specs.AimLaws.{keeps_still}
-use Rattle.page_ground.proofs.Setting.{set_stands, set_undone}
+use Rattle.page_ground.proofs.SetPoints.{set_stands, set_undone}
 use Rattle.page_ground.specs.declared.set_point.SetPoint.{SetPoint}
 use Rattle.page_ground.proofs.saving.PageGroundGround.done.Goals as goal
 

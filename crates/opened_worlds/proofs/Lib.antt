@@ -1,0 +1,10 @@
+mod NoUndo
+mod Ascending
+mod Live
+mod Plain
+mod OpenedMap
+mod OpenedRows
+mod Spare
+mod Stamped
+mod Redoing
+mod Service
