@@ -2,13 +2,13 @@
 --     each_either      at each moment each image stands for the world, or for it with the commit
 --     stands, next_one, room_to_set      the commit can be set then
 --     serves_after      and is set, the database serves the world with the commit
-use Rattle.std.proofs.Common.{◌≡◌, ◌⊎◌, refl, sym, ap, subst, ◌∙◌, ℕ, ◌+◌, ◌-◌, ◌^◌, ◌<◌, ◌≤◌, List, [], ◌∷◌, ◌++◌, length, arith, sum}
+use Rattle.std.proofs.Common.{◌≡◌, ◌⊎◌, sym, ap, subst, ◌∙◌, ℕ, ◌+◌, ◌-◌, ◌^◌, ◌<◌, ◌≤◌, List, [], ◌∷◌, ◌++◌, length, arith, sum, length-append}
 use Rattle.std.specs.Prelude.{unwrap_or}
 use Rattle.std.proofs.lemmas.List.Sums.{sum_by-append}
 use Rattle.std.proofs.lemmas.Option.{same_Some}
 use Rattle.mdb_model.specs.declared.change.Commit.{Commit}
 use Rattle.mdb_model.specs.declared.fault.Device.TheVariants.{Log}
-use Rattle.mdb_model.specs.History.{tables_of, commits_above}
+use Rattle.mdb_model.specs.History.{tables_of}
 use Rattle.mdb_model.specs.Images.{Image}
 use Rattle.mdb_model.specs.Sessions.{group_bytes}
 use Rattle.mdb_model.specs.Tables.{Tables, with_changes, with_commits}
@@ -32,7 +32,7 @@ use Rattle.redo_ring.proofs.LaterBeginnings.{later_log}
 use Rattle.redo_ring.proofs.Log.{bytes_cons}
 use Rattle.restart.specs.Redone.{IsFirstUndone}
 use Rattle.store_rows.specs.StoredRows.{stored_rows, HasRows}
-use Rattle.standing.specs.Looks.{LogPoint, look, redo_point, redo_after}
+use Rattle.standing.specs.Looks.{look, redo_point, redo_after}
 use Rattle.standing.specs.WholeStanding.{StandsWhole, AreaStands, AreaIsLive}
 use Rattle.standing.specs.Appending.{with_commit}
 use Rattle.standing.proofs.AppendStands.{commits-append}
@@ -47,6 +47,7 @@ use Rattle.page_ground.specs.Aims.{rows_shown, undone_in, StandsForWorld, KeepsW
 use Rattle.page_ground.specs.AimLaws.{rows_are}
 use Rattle.page_ground.specs.SetGroups.{HasTheseRows, SetsAll}
 use Rattle.page_ground.proofs.Log.{left_is}
+use Rattle.live_area.proofs.AllSet.{serves_set}
 use Rattle.live_area.specs.Serving.{saved_by, ServesWorld, CanTakeCommit, read_from}
 
 -- the ring with one group more
@@ -229,54 +230,15 @@ module _ (tells : Type 0) (slots : Slots) (r : RestartRecord) (s : Store) (ring 
       none_undone : undone_in sets.reader sets.set f.seen ≡ []
       none_undone = sets.rest ∙ none_left
 
-      no_more : (xs : List Commit) → xs ++ [] ≡ xs
-      no_more [] = refl
-      no_more (x ∷ xs) = ap (λ (l : List Commit). x ∷ l) (no_more xs)
-
-      abbrev done : List Commit
-      done = sets.stands.done
-
-      service_set : IsInService tells slots2 r2 sets.stands.info sets.stands.saved done t f
-      service_set = subst (λ xs. IsInService tells slots2 r2 sets.stands.info sets.stands.saved xs t f) (ap (λ xs. done ++ xs) none_undone ∙ no_more done) sets.stands.service
-
       end_is : sets.set.position ≡ ring.end_position + n
       end_is = omega (arith, sets.stands.same_end, sets.reads.ends known, ap log_bytes none_left, ap log_bytes none_undone)
 
-      ends_set : EndsAt r2 done (ring.end_position + n) (ring.last_commit + 1)
-      ends_set = record { position = omega (arith, sets.stands.ends.position, end_is); commit = omega (arith, sets.stands.ends.commit, sets.at_number) }
-
-      -- up to where the log is saved follows from where it ends
-      saved_at : (x : Disk) → (left : x.may_leave x.now x.seen) → AllStand more x → (record_now : RestartRecord) (info : _) (saved : LogPoint) (log : List Commit) → IsShown record_now info saved log (look x.seen)
-          → (saved.commit ≡ more.saved) × (record_now.position + log_bytes log ≡ saved.position + log_bytes (commits_above more.history more.saved))
-      saved_at x left all record_now info saved log is =
-          let st : StandsWhole x.seen more = all x.seen left in
-          let area : AreaIsLive (look x.seen) more = subst (λ a. AreaStands a (look x.seen) st.info more) plain_more.live st.area in
-          let same : area.rec ≡ record_now = same_Some area.rec record_now (sym area.in_force ∙ is.restart) in
-          let same_log : area.rows.log ≡ log = same_Some area.rows.log log (sym area.rows.in_log ∙ is.redo) in (
-            sym (ap (λ (p : LogPoint). p.commit) is.saved_upto) ∙ st.log.saved,
-            (λ i. (sym same i).position + log_bytes (sym same_log i)) ∙ area.rows.same_end ∙ ap (λ (p : LogPoint). p.position + log_bytes (commits_above more.history more.saved)) is.saved_upto,
-          )
-
-      same_saved : sets.stands.saved ≡ saved_by ring
-      same_saved =
-          let one = saved_at e seen_left2 all_more r serves.info (saved_by ring) (serves.log ++ c ∷ []) shown in
-          let two = saved_at f seen_left3 all_set r2 sets.stands.info sets.stands.saved done (service_set.shown f.seen seen_left3) in
+      ends_more : EndsAt r (serves.log ++ c ∷ []) (ring.end_position + n) (ring.last_commit + 1)
+      ends_more =
           let bytes : log_bytes (serves.log ++ c ∷ []) ≡ log_bytes serves.log + log_bytes (c ∷ []) = sum_by-append (λ (x : Commit). group_bytes x.changes) serves.log (c ∷ []) in
-          let commit : sets.stands.saved.commit ≡ ring.saved_commit = two.0 ∙ sym one.0 in
-          let position : sets.stands.saved.position ≡ ring.saved_position = omega (arith, one.1, two.1, bytes, one_log c, long, serves.ends.position, ends_set.position) in
-          λ i. record { commit = commit i; position = position i }
+          record { position = omega (arith, bytes, one_log c, long, serves.ends.position); commit = omega (arith, length-append serves.log (c ∷ []), serves.ends.commit) }
 
       pub serves_after : ServesWorld tells slots2 r2 t (read_from (with_group ring n) r2) f more
-      serves_after = record {
-        stand = all_set;
-        plain = plain_more;
-        info = sets.stands.info;
-        log = done;
-        service = subst (λ p. IsInService tells slots2 r2 sets.stands.info p done t f) same_saved service_set;
-        rows = set_rows.known;
-        all_set = set_rows.are ∙ tables_more;
-        ends = ends_set;
-        name = sym sets.reads.name ∙ sets.stands.name;
-        size = sym sets.reads.size ∙ sets.stands.size;
-        redo = omega (arith, ends_set.position);
-      }
+      serves_after =
+          serves_set more plain_more (with_group ring n) r serves.info (serves.log ++ c ∷ []) e seen_left2 all_more shown ends_more tells slots2 r2 t f seen_left3 all_set sets.reader sets.set sets.stands none_undone
+          end_is sets.at_number sets.reads.name sets.reads.size (record { known = set_rows.known; are = set_rows.are ∙ tables_more })

@@ -68,7 +68,7 @@ sound_set tells slots r t ring ring1 ring2 n e f order one two some low can ther
       there = λ told. ap size_of (same told) ∙ there told;
     })
 
-on_both : {T E : Type 0} (A B C : Type 0) (result : Result T E) → (A → B → C) → OnOk result A → OnOk result B → OnOk result C
+pub on_both : {T E : Type 0} (A B C : Type 0) (result : Result T E) → (A → B → C) → OnOk result A → OnOk result B → OnOk result C
 on_both A B C (Ok value) f a b = f a b
 on_both A B C (Err fault) f a b = tt
 

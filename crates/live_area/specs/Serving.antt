@@ -5,8 +5,8 @@
 --     CanTakeCommit      there is room for a commit, whose changes are at different places
 --     CommitAnswer      when a commit is refused
 --     IsRefusal      the refusals
---     read_from, reader_after, point_before      the ring read from a record; a reader after its last
---         group, and the point before that group
+--     read_from, reader_at_end, point_before      the ring read from a record; a reader after its
+--         last group, and the point before that group
 --     IsSet      the commit before a reader is set
 --     CommitLeaves, SavepointLeaves      what a commit and a savepoint leave of the world
 use Rattle.std.specs.Prelude.{◌≡◌, ◌⊎◌, ℕ, ◌+◌, ◌-◌, ◌<◌, ◌≤◌, min, true, List, ◌∷◌, Result, Ok, Err, OnOk, IfErr}

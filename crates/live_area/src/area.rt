@@ -65,6 +65,7 @@ impl LiveArea {
         ensures log { (self.new.ring.end_position ≡ self.old.ring.end_position)
             × (self.new.ring.last_commit ≡ self.old.ring.last_commit)
             × (self.new.ring.size ≡ self.old.ring.size) }
+        ensures fresh { OnOk result (self.new.ring.redo_position ≡ self.new.ring.end_position) }
         ensures cause { HasCause (H.faults host.old) (H.faults host.new) result }
         ensures fault { IfErr result (λ fault. fault ≡ Failed) }
         ensures say_faults { H.say_faults host.new ≡ H.say_faults host.old }
@@ -81,9 +82,9 @@ impl LiveArea {
         Ok(())
     }
 
-    /// Appends the group of a commit to the log, and sets its changes on the rows. A savepoint comes
-    /// in the middle where room is short. After a fault of a device the next restart finds whether
-    /// the commit was made: the caller goes offline.
+    /// Appends the group of a commit to the log, and sets its changes on the rows. A savepoint
+    /// comes in the middle where room is short. After a fault of a device the next restart finds
+    /// whether the commit was made: the caller goes offline.
     pub fn commit<H: Host>(&mut self, host: &mut H, group: &GroupBuf) -> Result<(), CommitFault>
         requires sound { IsSoundArea H.tells self.old.in_force.slots self.old.in_force.record
             self.old.store self.old.ring (H.disk host.old) }
@@ -118,7 +119,8 @@ impl LiveArea {
             ((self.new.ring.end_position ≡ self.old.ring.end_position + length group.now)
             × (self.new.ring.last_commit ≡ self.old.ring.last_commit + 1)
             × (self.new.ring.size ≡ self.old.ring.size)) }
-        ensures cause { result ≡ Err CommitFault.Failed → Rose (H.faults host.old) (H.faults host.new) }
+        ensures cause { result ≡ Err CommitFault.Failed
+            → Rose (H.faults host.old) (H.faults host.new) }
         ensures later { H.faults host.old ≤ H.faults host.new }
         ensures say_faults { H.say_faults host.new ≡ H.say_faults host.old }
     {

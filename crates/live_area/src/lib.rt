@@ -1,8 +1,11 @@
-//! The data area and the log of an open database: commits and savepoints.
+//! The data area and the log of an open database: restart, commits and savepoints.
 #![tactic(auto)]
 
 mod area;
+mod catching_up;
 pub mod fault;
+mod opening;
+mod reading;
 
 pub use area::LiveArea;
 pub use fault::CommitFault;

@@ -1,6 +1,6 @@
 mod NoUndo
 mod Ascending
-mod Live
+pub mod Live
 mod Plain
 mod OpenedMap
 mod OpenedRows

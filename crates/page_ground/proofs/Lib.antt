@@ -4,3 +4,4 @@ pub mod SetPoints
 pub mod Savepoints
 pub mod Passing
 pub mod Sets
+pub mod Redoes
