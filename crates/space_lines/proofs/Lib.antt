@@ -6,3 +6,4 @@ pub mod Room
 pub mod Notes
 pub mod Lines
 pub mod Ends
+pub mod LockTaken

@@ -6,8 +6,9 @@ ghost use Rattle.mdb_model.specs.History.{tables_of};
 ghost use Rattle.mdb_model.specs.Sessions.{net_changes};
 ghost use Rattle.mdb_model.specs.Space.{commit_has_room, has_room, kept_for_backup};
 ghost use Rattle.mdb_model.specs.Space.{kept_for_snapshots, need};
-ghost use Rattle.mdb_model.specs.Steps.{has_changes};
-ghost use Rattle.mdb_model.specs.Worlds.{World, transaction};
+ghost use Rattle.mdb_model.specs.Script.{is_session};
+ghost use Rattle.mdb_model.specs.Steps.{has_changes, locked};
+ghost use Rattle.mdb_model.specs.Worlds.{World, Lock, transaction};
 ghost use Rattle.space_rule.specs.KnownCosts.{KnownCosts, need_of};
 ghost use Rattle.known_needs.specs.KnownNeeds.{IsKnownOf};
 ghost use Rattle.space_lines.specs.Counted.{IsCounted};
@@ -32,4 +33,11 @@ pub fn a_counted_commit_has_room()
         → IsTrue (has_changes w session)
         → commit_has_room (tables_of w.history) (net_changes (transaction w session).changes)
         (kept_for_snapshots w + kept_for_backup w) w.blocks ≡ true }
+{}
+
+/// A line that only locks, as one that reads, leaves it counted.
+pub fn a_lock_leaves_it_counted()
+    ensures { (known : KnownCosts) (w : World) (session : ℕ) (lock : Lock)
+        → IsTrue (is_session session) → IsCounted known w
+        → IsCounted known (locked w session lock) }
 {}
