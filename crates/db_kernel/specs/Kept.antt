@@ -4,11 +4,13 @@
 --     IsAtWork, IsAtRest, AreOff, HasWorlds, FitsWorlds      a kernel with an open database, and
 --         one with none, against the worlds that may be
 --     Meets      the log of an open database is there
+--     IsSoundKernel, greatest_in      both, for callers that do not look into it; the greatest
+--         number of an open database
 --     answer_of, AreFew, AreKeyed, NextIs      the answer to a line with the rows of a scan, and
 --         how these are asked for
 --     as_refusal      how a fault is answered
 --     RingIs, IsOf, OpenedIs      what opening a log of these commits gives
-use Rattle.std.specs.Prelude.{◌≡◌, ℕ, ◌+◌, ◌-◌, ◌^◌, ◌<◌, List, length, Option, Some, None, Result, Ok, Err, All, false, min}
+use Rattle.std.specs.Prelude.{◌≡◌, ℕ, ◌+◌, ◌-◌, ◌^◌, ◌<◌, List, length, Option, Some, None, Result, Ok, Err, All, false, min, max}
 use Rattle.std.specs.FinMap.{empty}
 use Rattle.mdb_model.specs.declared.change.Commit.{Commit}
 use Rattle.mdb_model.specs.declared.name.Session.{Session}
@@ -105,6 +107,17 @@ FitsWorlds database disk ws = HasWorlds database ws
 abbrev pub Meets : Option Database → Image → Type 0
 Meets None image = Unit {0}
 Meets (Some database) image = HasRing database.ring.size image
+
+-- an open database is in order, whatever the devices have, and where the host tells what it holds,
+-- its log is there. Callers do not look into this
+unfoldable pub IsSoundKernel : (tells : Type 0) → Option Database → Disk → Type 0
+IsSoundKernel tells database disk = Ready database × (tells → Meets database disk.seen)
+
+-- the greatest number of an open database: the position where its log ends, or the number of its
+-- last commit
+abbrev pub greatest_in : Option Database → ℕ
+greatest_in None = 0
+greatest_in (Some database) = max database.ring.end_position database.ring.last_commit
 
 -- Answers
 

@@ -15,7 +15,7 @@ use Rattle.mdb_model.specs.Images.{Image}
 use Rattle.mdb_model.specs.Worlds.{World}
 use Rattle.mdb_host.specs.Disk.{Disk, Keeps}
 use Rattle.db_kernel.specs.declared.database.Database.{Database}
-use Rattle.db_kernel.specs.Kept.{Ready, Meets, FitsWorlds, NextIs, scanned_rows}
+use Rattle.db_kernel.specs.Kept.{IsSoundKernel, greatest_in, FitsWorlds, NextIs, scanned_rows}
 use Rattle.db_kernel.specs.Working.{StandsForOneOf}
 
 -- a device failed in a call since, or bytes broke a rule; the kernel is off then
@@ -29,11 +29,11 @@ FaultHasCause failed failed_after after _ = Unit {0}
 -- The disk and the count of failed calls are those before and after the row; what is said of the
 -- disk holds where the host tells what it holds.
 pub record TakesRow (tells : Type 0) (old new : Disk) (failed failed_after : ℕ)
-    (after : Option Database) (next : Next) : Type 0 where
-  -- the numbers of an open database fit each other
-  pub ready : Ready after
-  -- its log is there
-  pub meets : tells → Meets after new.seen
+    (before after : Option Database) (next : Next) : Type 0 where
+  -- an open database stays in order
+  pub sound : IsSoundKernel tells after new
+  -- its numbers do not grow
+  pub numbers : greatest_in after ≤ greatest_in before
   -- what was known of the moments before stays known
   pub keeps : tells → Keeps old new
   -- a fault has a cause

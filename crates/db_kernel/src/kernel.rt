@@ -1,5 +1,5 @@
 //! The kernel takes the lines of a script one by one.
-ghost use Rattle.std.specs.Prelude.{◌≡◌, ℕ, ◌≤◌, ◌<◌, ◌^◌, List, IsTrue, IsSome, Some, None, length, true};
+ghost use Rattle.std.specs.Prelude.{◌≡◌, ℕ, ◌-◌, ◌≤◌, ◌<◌, ◌^◌, List, IsTrue, IsSome, Some, None, length, true};
 ghost use Rattle.mdb_model.specs.Answers.{plain};
 ghost use Rattle.mdb_model.specs.declared.change.Change.TheVariants.{Put, Del};
 ghost use Rattle.mdb_model.specs.declared.script.Command.TheVariants.{GetRow, PutRow, DelRow, ScanTable, CommitWork, RollbackWork, DbAdmin, DbOnline, DbOffline, Kill};
@@ -10,7 +10,7 @@ ghost use Rattle.mdb_host.specs.Disk.{Disk};
 ghost use Rattle.mdb_bytes.specs.Groups.{change_fits};
 ghost use Rattle.db_kernel.specs.Damages.{IsInside};
 ghost use Rattle.db_kernel.specs.Refusing.{RefusalLeaves};
-ghost use Rattle.db_kernel.specs.Kept.{Ready, Meets, FitsWorlds, HasWorlds, answer_of, scanned_rows, AreFew, AreKeyed};
+ghost use Rattle.db_kernel.specs.Kept.{Ready, Meets, IsSoundKernel, FitsWorlds, HasWorlds, answer_of, scanned_rows, greatest_in, AreFew, AreKeyed};
 ghost use Rattle.db_kernel.specs.Scanning.{TakesRow, ReadsRow};
 ghost use Rattle.session_rows.specs.Replies.{scan_answer};
 ghost use Rattle.db_kernel.specs.Access.{opens, opened_reply, state_of};
@@ -60,11 +60,11 @@ impl Kernel {
 
     /// Takes a line and answers it. The rows of a scan are asked for by `scan_next` once it is
     /// open.
-    #[tactic(auto, unfolding(crate::specs::Kept::FitsWorlds))]
+    #[tactic(auto, unfolding(crate::specs::Kept::FitsWorlds, crate::specs::Kept::IsSoundKernel))]
     pub fn command<H: Host>(&mut self, host: &mut H, line: &Command) -> Reply
         requires range { IsTrue (is_in_range line.now) }
-        requires ready { Ready self.old.database }
-        requires meets { H.tells → Meets self.old.database (H.disk host.old).seen }
+        requires sound { IsSoundKernel H.tells self.old.database (H.disk host.old) }
+        requires low { greatest_in self.old.database ≤ 2 ^ 62 - 2 ^ 40 }
         ensures takes { TakesLine H.tells (H.disk host.old) (H.disk host.new) (H.faults host.old)
             (H.faults host.new) self.old.database self.new.database line.now result }
         ensures does { H.tells → (ws : List World)
@@ -113,6 +113,7 @@ impl Kernel {
 
     /// The next row of a scan that is open: the first one after a key, which is empty at its
     /// start. A row that is read may call a device; after a fault the kernel is off.
+    #[tactic(auto, unfolding(crate::specs::Kept::IsSoundKernel))]
     pub fn scan_next<H: Host>(
         &mut self,
         host: &mut H,
@@ -124,10 +125,10 @@ impl Kernel {
     ) -> Next
         requires session { IsTrue (is_session session.0) }
         requires table { IsTrue (is_table table.0) }
-        requires ready { Ready self.old.database }
-        requires meets { H.tells → Meets self.old.database (H.disk host.old).seen }
+        requires sound { IsSoundKernel H.tells self.old.database (H.disk host.old) }
+        requires low { greatest_in self.old.database ≤ 2 ^ 62 - 2 ^ 40 }
         ensures takes { TakesRow H.tells (H.disk host.old) (H.disk host.new) (H.faults host.old)
-            (H.faults host.new) self.new.database result }
+            (H.faults host.new) self.old.database self.new.database result }
         ensures reads { H.tells → (ws : List World)
             → FitsWorlds self.old.database (H.disk host.old) ws
             → LeavesOnly page_reading StandsFor (H.disk host.old) ws
@@ -255,7 +256,7 @@ impl Kernel {
         Reply::OfflineNow
     }
 
-    #[tactic(auto, unfolding(crate::specs::Kept::FitsWorlds))]
+    #[tactic(auto, unfolding(crate::specs::Kept::FitsWorlds, crate::specs::Kept::IsSoundKernel))]
     fn commit<H: Host>(&mut self, host: &mut H, session: Session) -> Reply
         requires session { IsTrue (is_session session.0) }
         requires ready { Ready self.old.database }
@@ -283,7 +284,7 @@ impl Kernel {
     }
 
     // Lets the administrator in: opens the database, or dismisses the sessions.
-    #[tactic(auto, unfolding(crate::specs::Kept::FitsWorlds))]
+    #[tactic(auto, unfolding(crate::specs::Kept::FitsWorlds, crate::specs::Kept::IsSoundKernel))]
     fn go_admin<H: Host>(&mut self, host: &mut H) -> Reply
         requires ready { Ready self.old.database }
         requires meets { H.tells → Meets self.old.database (H.disk host.old).seen }
@@ -304,7 +305,7 @@ impl Kernel {
     }
 
     // Lets the sessions in: opens the database, or ends the administrator's work.
-    #[tactic(auto, unfolding(crate::specs::Kept::FitsWorlds))]
+    #[tactic(auto, unfolding(crate::specs::Kept::FitsWorlds, crate::specs::Kept::IsSoundKernel))]
     fn go_online<H: Host>(&mut self, host: &mut H) -> Reply
         requires ready { Ready self.old.database }
         requires meets { H.tells → Meets self.old.database (H.disk host.old).seen }
@@ -324,7 +325,7 @@ impl Kernel {
     }
 
     // Opens the database.
-    #[tactic(auto, unfolding(crate::specs::Kept::FitsWorlds))]
+    #[tactic(auto, unfolding(crate::specs::Kept::FitsWorlds, crate::specs::Kept::IsSoundKernel))]
     fn restart<H: Host>(&mut self, host: &mut H, access: Access) -> Reply
         requires off { self.old.database ≡ None }
         ensures takes { TakesLine H.tells (H.disk host.old) (H.disk host.new) (H.faults host.old)

@@ -1,5 +1,5 @@
 //! What is so of a kernel and its worlds, for callers that do not look into what it is to fit
-//! them. The functions do nothing: their contracts are the laws.
+//! them, or to be in order. The functions do nothing: their contracts are the laws.
 ghost use Rattle.std.specs.Prelude.{◌≡◌, List, All, None};
 ghost use Rattle.mdb_model.specs.declared.name.State.TheVariants.{Offline};
 ghost use Rattle.mdb_model.specs.declared.name.Session.{Session};
@@ -11,7 +11,7 @@ ghost use Rattle.mdb_model.specs.declared.script.Reply.TheVariants.{Refused};
 ghost use Rattle.mdb_model.specs.Runs.{Line};
 ghost use Rattle.mdb_model.specs.Worlds.{World};
 ghost use Rattle.mdb_host.specs.Disk.{Disk};
-ghost use Rattle.db_kernel.specs.Kept.{AreOff, FitsWorlds};
+ghost use Rattle.db_kernel.specs.Kept.{AreOff, FitsWorlds, IsSoundKernel};
 ghost use Rattle.db_kernel.specs.Outside.{TiesNothing};
 ghost use Rattle.db_kernel.specs.Stretch.{IsStill};
 
@@ -28,6 +28,25 @@ pub fn saying_keeps_the_fit<H: Host>(kernel: &Kernel, before: &H, after: &H)
     let _kernel = kernel;
     let _before = before;
     let _after = after;
+}
+
+/// Saying a text leaves an open database in order, too. A host that does not tell what it holds
+/// says nothing of its devices.
+pub fn saying_keeps_it_sound<H: Host>(kernel: &Kernel, before: &H, after: &H)
+    ensures { IsSoundKernel H.tells kernel.now.database (H.disk before.now)
+        → (H.tells → IsStill (H.disk before.now) (H.disk after.now))
+        → IsSoundKernel H.tells kernel.now.database (H.disk after.now) }
+{
+    let _kernel = kernel;
+    let _before = before;
+    let _after = after;
+}
+
+/// A kernel that is off is in order, whatever the devices hold.
+pub fn a_kernel_that_is_off_is_sound<H: Host>(host: &H)
+    ensures { IsSoundKernel H.tells None (H.disk host.now) }
+{
+    let _host = host;
 }
 
 /// A kernel that is off fits whatever worlds are off, and one that fits worlds that are off is off.

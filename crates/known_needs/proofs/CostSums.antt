@@ -1,5 +1,6 @@
 -- The cost of a table as a sum over any places that have all rows.
 --     keys_apart      the keys of sorted entries do not repeat
+--     in_keys, keys_in      the keys are the places with a row
 --     cost_over      the cost over such places
 --     places_have      these have all rows
 use Rattle.std.proofs.Common.{◌≡◌, ◌≢◌, ◌⊎◌, inl, inr, refl, sym, ap, ◌∙◌, subst, ℕ, ◌+◌, max, Bool, true, false, cond, not, ◌==◌, List, [], ◌∷◌, length, map, Some, None, arith, T}
@@ -54,11 +55,11 @@ in_any p (q ∷ ps) (inl is) = or_left (eq_by_cmp place_cmp p q) (list_any (eq_b
 in_any p (q ∷ ps) (inr later) = or_right (eq_by_cmp place_cmp p q) (list_any (eq_by_cmp place_cmp p) ps) (in_any p ps later)
 
 -- a place with a row is among the keys
-in_keys : (m : Tables) (p : Place) → contains_key m p ≡ true → In p (keys m)
+pub in_keys : (m : Tables) (p : Place) → contains_key m p ≡ true → In p (keys m)
 in_keys m p there = any_in p (keys m) (sym (contains_key-keys m p) ∙ there)
 
 -- and each key has a row
-keys_in : (m : Tables) (p : Place) → In p (keys m) → contains_key m p ≡ true
+pub keys_in : (m : Tables) (p : Place) → In p (keys m) → contains_key m p ≡ true
 keys_in m p there = contains_key-keys m p ∙ in_any p (keys m) there
 
 module _ (a b : Tables) where

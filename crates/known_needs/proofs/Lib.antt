@@ -13,3 +13,4 @@ pub mod NeedKnown
 pub mod NotedKnown
 pub mod EndedKnown
 pub mod Settled
+pub mod FewRows

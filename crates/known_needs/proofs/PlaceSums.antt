@@ -1,5 +1,6 @@
 -- Sums over places that do not repeat.
 --     In      a place is among these
+--     sum_within      a sum is within one over these places and more
 --     same_total, same_terms      two sums over the same places that count, or of the same terms
 --     filtered      a sum over those that pass
 --     in_filter, filter_in, apart_filter      the places that pass
@@ -105,7 +106,7 @@ apart_append (x ∷ ps) qs one two none = (
 -- Sums
 
 -- a sum over places that do not repeat is no more than one over places among which those that count are
-sum_within : (f : Place → ℕ) (ps qs : List Place) → AllApart ps → ((p : Place) → In p ps → (f p ≡ 0) ⊎ In p qs) → sum_by f ps ≤ sum_by f qs
+pub sum_within : (f : Place → ℕ) (ps qs : List Place) → AllApart ps → ((p : Place) → In p ps → (f p ≡ 0) ⊎ In p qs) → sum_by f ps ≤ sum_by f qs
 sum_within f [] qs apart each = omega arith
 sum_within f (p ∷ ps) qs apart each =
     let cons = sum_by-cons f p ps in

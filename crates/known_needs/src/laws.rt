@@ -1,11 +1,14 @@
 //! What is known of a world, and what that needs. The functions do nothing: their contracts are the
 //! laws.
-ghost use Rattle.std.specs.Prelude.{◌≡◌, ℕ, ◌<◌, ◌≤◌, [], None, true, false, length, slice_index};
+ghost use Rattle.std.specs.Prelude.{◌≡◌, ℕ, ◌+◌, ◌^◌, ◌<◌, ◌≤◌, List, [], None, true, false};
+ghost use Rattle.std.specs.Prelude.{length, slice_index};
 ghost use Rattle.std.specs.FinMap.{empty};
 ghost use Rattle.mdb_model.specs.declared.change.Change.{Change};
 ghost use Rattle.mdb_model.specs.History.{tables_of};
-ghost use Rattle.mdb_model.specs.Space.{need, present, table_cost, tree_pages, undo_now};
-ghost use Rattle.mdb_model.specs.Steps.{changed, committed_by};
+ghost use Rattle.mdb_model.specs.Space.{has_room, need, present, table_cost, tree_pages};
+ghost use Rattle.mdb_model.specs.Space.{undo_now};
+ghost use Rattle.mdb_model.specs.Steps.{changed, committed_by, rows_of};
+ghost use Rattle.mdb_model.specs.Tables.{Tables, with_changes};
 ghost use Rattle.mdb_model.specs.Worlds.{World, created, without_transaction};
 ghost use Rattle.space_rule.specs.KnownCosts.{KnownCosts, all_table_pages, need_of, undo_of};
 ghost use Rattle.space_rule.specs.KnownCosts.{changes_at, noted, ended};
@@ -67,4 +70,15 @@ pub fn a_commit_is_known()
     ensures { (known : KnownCosts) (w : World) (session : ℕ) → IsKnownOf known w
         → ChangesAreApart w → 500 < length known.committed
         → IsKnownOf (ended known session true) (committed_by w session) }
+{}
+
+/// A table has at most 2^40 rows where its rows fit into an area of at most 65,536 blocks, and each
+/// change makes one more at most.
+pub fn rows_that_fit_are_few()
+    ensures rows { (rows : Tables) (kept blocks table : ℕ) → 1 ≤ table → table ≤ 500
+        → has_room rows rows 0 kept blocks ≡ true → blocks ≤ 65536
+        → length (rows_of rows table) ≤ 2 ^ 40 }
+    ensures changed { (rows : Tables) (changes : List Change) (table : ℕ)
+        → length (rows_of (with_changes changes rows) table)
+        ≤ length (rows_of rows table) + length changes }
 {}

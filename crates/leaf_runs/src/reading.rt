@@ -1,5 +1,5 @@
 //! What is read of tables.
-ghost use Rattle.std.specs.Prelude.{◌≡◌, ◌<◌, ◌≤◌, ℕ, List, length, IsTrue, Some, IfOk, OnOk};
+ghost use Rattle.std.specs.Prelude.{◌≡◌, ◌^◌, ◌<◌, ◌≤◌, ℕ, List, length, IsTrue, Some, IfOk, OnOk};
 ghost use Rattle.mdb_model.specs.Script.{is_table};
 ghost use Rattle.std.specs.FinMap.{get, find};
 ghost use Rattle.mdb_model.specs.Space.{table_pages, table_cost};
@@ -322,6 +322,8 @@ pub(crate) fn cost<P: Pages>(pages: &mut P, table: Table) -> Result<u64, PageFau
         (λ cost. cost
         ≡ table_cost (rows_in_pages (P.pages pages.old)) (rows_in_pages (P.pages pages.old))
         table.0) }
+    ensures small { P.is_known pages.old → AreRuns (P.pages pages.old)
+        → IfOk result (λ cost. cost < 2 ^ 62) }
     ensures same { P.is_known pages.old
         → OnOk result (P.is_known pages.new × (P.pages pages.new ≡ P.pages pages.old)) }
     ensures spare { P.spare pages.old ≤ P.spare pages.new }

@@ -1,5 +1,5 @@
 //! A keeper of rows whose tables are lists of leaves.
-ghost use Rattle.std.specs.Prelude.{◌≡◌, ◌≤◌, IsTrue, IfOk, OnOk};
+ghost use Rattle.std.specs.Prelude.{◌≡◌, ◌^◌, ◌<◌, ◌≤◌, IsTrue, IfOk, OnOk};
 ghost use Rattle.mdb_model.specs.Script.{is_table};
 ghost use Rattle.mdb_model.specs.Space.{table_cost};
 ghost use Rattle.mdb_bytes.specs.Held.{HasPageCause};
@@ -41,6 +41,8 @@ impl<P: Pages> Runs<P> {
             (λ cost. cost
             ≡ table_cost (rows_in_pages (P.pages self.old.pages))
             (rows_in_pages (P.pages self.old.pages)) table.0) }
+        ensures small { P.is_known self.old.pages → IsTableArea (P.pages self.old.pages)
+            → IfOk result (λ cost. cost < 2 ^ 62) }
         ensures same { P.is_known self.old.pages
             → OnOk result (P.is_known self.new.pages
             × (P.pages self.new.pages ≡ P.pages self.old.pages)) }

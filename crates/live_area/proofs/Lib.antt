@@ -5,3 +5,7 @@ pub mod Committed
 pub mod CaughtUp
 pub mod Found
 pub mod Opened
+pub mod StillServing
+pub mod StoodFor
+pub mod Served
+pub mod KeyedRows

@@ -7,7 +7,7 @@ ghost use Rattle.mdb_model.specs.Worlds.{World};
 ghost use Rattle.mdb_model.specs.declared.fault.Device.TheVariants.{Log};
 ghost use Rattle.mdb_model.specs.declared.fault.PageFault.TheVariants.{Failed};
 ghost use Rattle.mdb_model.specs.Causes.{HasCause};
-ghost use Rattle.mdb_host.specs.Disk.{Disk};
+ghost use Rattle.mdb_host.specs.Disk.{Disk, Keeps};
 ghost use Rattle.page_store.specs.SavingStays.{numbers_left};
 ghost use Rattle.page_store.specs.Store.{spare_of};
 ghost use Rattle.page_store.specs.WholeSavepoint.{CanSave, spare_after, IsSameArea};
@@ -65,9 +65,13 @@ impl LiveArea {
         ensures log { (self.new.ring.end_position ≡ self.old.ring.end_position)
             × (self.new.ring.last_commit ≡ self.old.ring.last_commit)
             × (self.new.ring.size ≡ self.old.ring.size) }
+        ensures same_log { (self.new.ring.name ≡ self.old.ring.name)
+            × (self.new.ring.saved_position ≡ self.old.ring.saved_position)
+            × (self.new.ring.saved_commit ≡ self.old.ring.saved_commit) }
         ensures fresh { OnOk result (self.new.ring.redo_position ≡ self.new.ring.end_position) }
         ensures cause { HasCause (H.faults host.old) (H.faults host.new) result }
         ensures fault { IfErr result (λ fault. fault ≡ Failed) }
+        ensures keeps { H.tells → Keeps (H.disk host.old) (H.disk host.new) }
         ensures say_faults { H.say_faults host.new ≡ H.say_faults host.old }
     {
         // Opens the invariant.
@@ -119,9 +123,13 @@ impl LiveArea {
             ((self.new.ring.end_position ≡ self.old.ring.end_position + length group.now)
             × (self.new.ring.last_commit ≡ self.old.ring.last_commit + 1)
             × (self.new.ring.size ≡ self.old.ring.size)) }
+        ensures same_log { (self.new.ring.name ≡ self.old.ring.name)
+            × (self.new.ring.saved_position ≡ self.old.ring.saved_position)
+            × (self.new.ring.saved_commit ≡ self.old.ring.saved_commit) }
         ensures cause { result ≡ Err CommitFault.Failed
             → Rose (H.faults host.old) (H.faults host.new) }
         ensures later { H.faults host.old ≤ H.faults host.new }
+        ensures keeps { H.tells → Keeps (H.disk host.old) (H.disk host.new) }
         ensures say_faults { H.say_faults host.new ≡ H.say_faults host.old }
     {
         match self.ring.append(host, group) {
@@ -160,6 +168,7 @@ impl LiveArea {
         ensures log { H.tells → (H.disk host.new).seen Log ≡ (H.disk host.old).seen Log }
         ensures cause { result ≡ Err Failed → Rose (H.faults host.old) (H.faults host.new) }
         ensures later { H.faults host.old ≤ H.faults host.new }
+        ensures keeps { H.tells → Keeps (H.disk host.old) (H.disk host.new) }
         ensures say_faults { H.say_faults host.new ≡ H.say_faults host.old }
     {
         let end = self.ring.end_position;

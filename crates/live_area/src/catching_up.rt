@@ -4,7 +4,7 @@ ghost use Rattle.mdb_model.specs.Causes.{Rose};
 ghost use Rattle.mdb_model.specs.Worlds.{World};
 ghost use Rattle.mdb_model.specs.declared.fault.Device.TheVariants.{Log};
 ghost use Rattle.mdb_model.specs.declared.fault.PageFault.TheVariants.{Failed};
-ghost use Rattle.mdb_host.specs.Disk.{Disk};
+ghost use Rattle.mdb_host.specs.Disk.{Disk, Keeps};
 ghost use Rattle.mdb_bytes.specs.Rings.{IsRingSize};
 ghost use Rattle.page_store.specs.SavingStays.{numbers_left};
 ghost use Rattle.page_store.specs.WholeSavepoint.{CanSave, IsSameArea};
@@ -45,9 +45,13 @@ impl LiveArea {
         ensures log { (self.new.ring.end_position ≡ self.old.ring.end_position)
             × (self.new.ring.last_commit ≡ self.old.ring.last_commit)
             × (self.new.ring.size ≡ self.old.ring.size) }
+        ensures same_log { (self.new.ring.name ≡ self.old.ring.name)
+            × (self.new.ring.saved_position ≡ self.old.ring.saved_position)
+            × (self.new.ring.saved_commit ≡ self.old.ring.saved_commit) }
         ensures fresh { OnOk result (self.new.ring.redo_position ≡ self.new.ring.end_position) }
         ensures cause { result ≡ Err Failed → Rose (H.faults host.old) (H.faults host.new) }
         ensures later { H.faults host.old ≤ H.faults host.new }
+        ensures keeps { H.tells → Keeps (H.disk host.old) (H.disk host.new) }
         ensures say_faults { H.say_faults host.new ≡ H.say_faults host.old }
     {
         self.redo(host, group)?;
@@ -80,6 +84,7 @@ impl LiveArea {
         ensures log { H.tells → (H.disk host.new).seen Log ≡ (H.disk host.old).seen Log }
         ensures cause { result ≡ Err Failed → Rose (H.faults host.old) (H.faults host.new) }
         ensures later { H.faults host.old ≤ H.faults host.new }
+        ensures keeps { H.tells → Keeps (H.disk host.old) (H.disk host.new) }
         ensures say_faults { H.say_faults host.new ≡ H.say_faults host.old }
     {
         let position = self.in_force.record.position;

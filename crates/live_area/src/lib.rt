@@ -4,8 +4,13 @@
 mod area;
 mod catching_up;
 pub mod fault;
+mod laws;
 mod opening;
 mod reading;
 
 pub use area::LiveArea;
 pub use fault::CommitFault;
+pub use laws::{
+    a_fresh_record_has_the_rows, a_world_that_stands, calls_keep_serving, saying_keeps_serving,
+    what_is_served,
+};

@@ -1,15 +1,17 @@
 //! A restart on pages.
-ghost use Rattle.std.specs.Prelude.{◌≡◌, ℕ, ◌+◌, ◌≤◌, ◌<◌, ◌^◌, get_or, sum, Err, IfOk};
+ghost use Rattle.std.specs.Prelude.{◌≡◌, ℕ, ◌+◌, ◌-◌, ◌≤◌, ◌<◌, ◌^◌, max, get_or, sum, Err, IfOk};
 ghost use Rattle.mdb_model.specs.Causes.{Rose};
 ghost use Rattle.mdb_model.specs.Images.{Image};
 ghost use Rattle.mdb_model.specs.Worlds.{World};
 ghost use Rattle.mdb_model.specs.declared.fault.OpenFault.TheVariants.{Failed};
-ghost use Rattle.mdb_host.specs.Disk.{Disk};
+ghost use Rattle.mdb_host.specs.Disk.{Disk, Keeps};
 ghost use Rattle.mdb_bytes.specs.Rings.{HasRing, ring_size};
 ghost use Rattle.gate_slots.specs.declared.body.SlotBody.TheVariants.{Restart};
 ghost use Rattle.gate_slots.specs.Slots.{HasBody, IsReady};
 ghost use Rattle.volume_disk.specs.Blocks.{IsArea, IsDurable};
 ghost use Rattle.savepoint.specs.Stands.{restart_place};
+ghost use Rattle.page_store.specs.SavingStays.{numbers_left};
+ghost use Rattle.page_store.specs.Store.{block_count};
 ghost use Rattle.redo_ring.specs.Opening.{IsStart};
 ghost use Rattle.live_area.specs.Serving.{IsSoundArea, ServesWorld};
 ghost use Rattle.live_area.specs.Awaiting.{IsFound, OpenLeaves};
@@ -52,6 +54,16 @@ impl LiveArea {
             → IsReady in_force.slots (Restart in_force.record) image }
         ensures sound { IfOk result (λ area. IsSoundArea H.tells area.in_force.slots
             area.in_force.record area.store area.ring (H.disk host.new)) }
+        ensures blocks { IfOk result (λ area. block_count area.store
+            ≡ sum in_force.record.volumes.items) }
+        ensures log { IfOk result (λ area. (area.ring.name ≡ start.now.name)
+            × (area.ring.size ≡ ring_size start.now.pages)
+            × (area.ring.end_position < start.now.position + area.ring.size)
+            × (area.ring.last_commit + start.now.position
+            ≤ start.now.commit + area.ring.end_position)) }
+        ensures numbers { IfOk result (λ area. (2 ^ 62 - 1)
+            - max (in_force.record.savepoint + 1) in_force.record.slot
+            ≤ numbers_left area.in_force.record area.store + (area.ring.size + 1)) }
         ensures fresh { IfOk result (λ area. area.ring.redo_position ≡ area.ring.end_position) }
         ensures opens { H.tells → (w : World)
             → IsFound in_force.record start.now (H.disk host.old) w
@@ -60,6 +72,7 @@ impl LiveArea {
             area.ring (H.disk host.new) w) result }
         ensures cause { result ≡ Err Failed → Rose (H.faults host.old) (H.faults host.new) }
         ensures later { H.faults host.old ≤ H.faults host.new }
+        ensures keeps { H.tells → Keeps (H.disk host.old) (H.disk host.new) }
         ensures say_faults { H.say_faults host.new ≡ H.say_faults host.old }
     {
         let mut area = LiveArea::read(alloc, host, in_force, start)?;

@@ -11,6 +11,7 @@ ghost use Rattle.gate_slots.specs.declared.body.SlotBody.TheVariants.{Restart};
 ghost use Rattle.gate_slots.specs.Slots.{HasBody, IsReady};
 ghost use Rattle.volume_disk.specs.Blocks.{IsArea, IsDurable};
 ghost use Rattle.savepoint.specs.Stands.{restart_place};
+ghost use Rattle.page_store.specs.Store.{block_count};
 ghost use Rattle.redo_ring.specs.Opening.{IsStart, IsRingOpened};
 ghost use Rattle.live_area.specs.Serving.{IsSoundArea};
 ghost use Rattle.live_area.specs.Awaiting.{AwaitsRedo, IsFound};
@@ -48,6 +49,8 @@ impl LiveArea {
             area.in_force.record area.store area.ring (H.disk host.new)) }
         ensures same { IfOk result (λ area. area.in_force ≡ in_force) }
         ensures opened { IfOk result (λ area. IsRingOpened start.now area.ring) }
+        ensures blocks { IfOk result (λ area. block_count area.store
+            ≡ sum in_force.record.volumes.items) }
         ensures awaits { H.tells → (w : World)
             → IsFound in_force.record start.now (H.disk host.old) w
             → IfOk result (λ area. AwaitsRedo H.tells area.in_force.slots area.in_force.record

@@ -36,7 +36,7 @@ sorted_apart : (ps : List Place) → T (is_sorted place_cmp (keyed ps)) → AllA
 sorted_apart [] sorted = tt
 sorted_apart (p ∷ ps) sorted = (below_apart p ps (t_left _ _ sorted), sorted_apart ps (t_right _ _ sorted))
 
-group_apart : (v : Group) (bytes : List ℕ) → Spells group_format v bytes → AllApart (places_of v.changes)
+pub group_apart : (v : Group) (bytes : List ℕ) → Spells group_format v bytes → AllApart (places_of v.changes)
 group_apart v bytes spells =
     let fit = and_left (group_fits v) _ spells.0 in
     let order = and_left (list_all change_fits v.changes && rises place_cmp (map place_of v.changes)) (nat_le (group_bytes v.changes) longest_group) fit in

@@ -1,5 +1,5 @@
 mod NoUndo
-mod Ascending
+pub mod Ascending
 pub mod Live
 mod Plain
 mod OpenedMap

@@ -5,6 +5,7 @@
 --     calls_keep_all      all of it
 --     room_rest      the room of commits
 --     at_both      what is so at each moment of two stretches
+--     keeps_through      what was known stays known over two stretches
 --     keeps_still, keeps_further      nothing was done; calls one after the other
 use Rattle.std.proofs.Common.{◌≡◌, ◌⊎◌, inl, inr, sym, ap, subst, ◌∙◌, ℕ, ◌+◌, ◌%◌, ◌^◌, ◌<◌, ◌≤◌, List, [], ◌∷◌, ◌++◌, length, Option, arith}
 use Rattle.std.specs.Prelude.{unwrap_or, option_and_then}
@@ -17,7 +18,7 @@ use Rattle.mdb_model.specs.Images.{Image, byte_at}
 use Rattle.mdb_model.specs.Pages.{committed}
 use Rattle.mdb_model.specs.Tables.{Tables, with_changes, with_commits}
 use Rattle.mdb_model.specs.Worlds.{World, Live}
-use Rattle.mdb_host.specs.Disk.{Disk, Goes}
+use Rattle.mdb_host.specs.Disk.{Disk, Keeps, Goes}
 use Rattle.mdb_host.proofs.Moments.{keeps_all, keeps_on}
 use Rattle.mdb_bytes.specs.declared.restart_record.RestartRecord.{RestartRecord}
 use Rattle.mdb_bytes.specs.Forms.{reading}
@@ -77,6 +78,10 @@ keeps_still d = record {
     each = λ t image from upto left. (let same : t ≡ d.now = omega (arith, from, upto) in stand image (subst (λ n. d.may_leave n image) same left));
   };
 }
+
+-- what was known stays known over two stretches
+pub keeps_through : (a b c : Disk) → Keeps a b → Keeps b c → Keeps a c
+keeps_through a b c one two = keeps_on a b c one two
 
 -- what is so at each moment of two stretches
 pub at_both : (a b c : Disk) (P : Image → Type 0) → AtEachMoment a b P → AtEachMoment b c P → AtEachMoment a c P

@@ -4,6 +4,7 @@ ghost use Rattle.mdb_model.specs.Causes.{Rose};
 ghost use Rattle.mdb_model.specs.declared.fault.Device.TheVariants.{Log};
 ghost use Rattle.mdb_model.specs.declared.fault.PageFault.TheVariants.{Failed};
 ghost use Rattle.mdb_model.specs.Tables.{with_commits};
+ghost use Rattle.mdb_host.specs.Disk.{Keeps};
 ghost use Rattle.page_store.specs.Opens.{own_pages};
 ghost use Rattle.page_store.specs.SavingStays.{numbers_left};
 ghost use Rattle.page_store.specs.Store.{block_count};
@@ -71,6 +72,7 @@ pub fn redo_log<'a, H: Host>(
         → IfErr result (λ fault. fault ≡ Failed) }
     ensures area { IsSameArea store.old store.new }
     ensures log { H.tells → (H.disk host.new).seen Log ≡ (H.disk host.old).seen Log }
+    ensures keeps { H.tells → Keeps (H.disk host.old) (H.disk host.new) }
     ensures say_faults { H.say_faults host.new ≡ H.say_faults host.old }
 {
     let set = SetPoint {

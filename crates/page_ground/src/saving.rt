@@ -3,6 +3,7 @@ ghost use Rattle.std.specs.Prelude.{◌≡◌, ℕ, ◌+◌, ◌≤◌, ◌<◌,
 ghost use Rattle.std.proofs.Common.{◌∙◌, sym, subst, ap};
 ghost use Rattle.mdb_model.specs.Causes.{HasCause};
 ghost use Rattle.mdb_model.specs.declared.fault.Device.TheVariants.{Log};
+ghost use Rattle.mdb_host.specs.Disk.{Keeps};
 ghost use Rattle.mdb_bytes.specs.declared.restart_record.RestartRecord.{RestartRecord};
 ghost use Rattle.gate_slots.specs.declared.slots.Slots.{Slots};
 ghost use Rattle.page_store.specs.SavingStays.{stays, numbers_left, numbers_same};
@@ -15,7 +16,7 @@ ghost use Rattle.kept_worlds.specs.InService.{HasRoomToSet};
 ghost use Rattle.page_ground.specs.LogKnown.{held_in, IsLogKnown, ReadsOn};
 ghost use Rattle.page_ground.specs.LogLaws.{reads_itself, reads_further};
 ghost use Rattle.page_ground.specs.Aims.{rows_shown, undone_in, StandsForWorld, KeepsWorlds};
-ghost use Rattle.page_ground.specs.AimLaws.{calls_keep_all, keeps_further, log_stays, room_rest};
+ghost use Rattle.page_ground.specs.AimLaws.{calls_keep_all, keeps_further, keeps_through, log_stays, room_rest};
 
 use crate::ground::PageGround;
 use crate::set_point::SetPoint;
@@ -67,6 +68,8 @@ impl<'a, H: Host> PageGround<'a, H> {
             (H.disk self.old.host.now).seen (H.disk self.new.host.now).seen }
         ensures log { H.tells
             → (H.disk self.new.host.now).seen Log ≡ (H.disk self.old.host.now).seen Log }
+        ensures keeps { H.tells
+            → Keeps (H.disk self.old.host.now) (H.disk self.new.host.now) }
         ensures area { IsSameArea self.old.store.now self.new.store.now }
         ensures names { (self.new.store.ghost_name ≡ self.old.store.ghost_name)
             × (self.new.host.ghost_name ≡ self.old.host.ghost_name)
@@ -107,7 +110,8 @@ impl<'a, H: Host> Ground for PageGround<'a, H> {
         × (H.say_faults b.host.now ≡ H.say_faults a.host.now)
         × IsSameArea a.store.now b.store.now
         × ReadsOn H.tells a.reader b.reader (H.disk a.host.now).seen (H.disk b.host.now).seen
-        × (H.tells → (H.disk b.host.now).seen Log ≡ (H.disk a.host.now).seen Log) };
+        × (H.tells → (H.disk b.host.now).seen Log ≡ (H.disk a.host.now).seen Log)
+        × (H.tells → Keeps (H.disk a.host.now) (H.disk b.host.now)) };
 
     ghost can_save = { λ s. CanSave H.tells s.in_force.now.slots s.in_force.now.record
         s.store.now (H.disk s.host.now) };
@@ -145,6 +149,7 @@ impl<'a, H: Host> Ground for PageGround<'a, H> {
       record { sizes = f.5.maps.sizes; conv = f.5.maps.conv; area = f.5.maps.area },
       f.7,
       log_stays H.tells a.store.now b.store.now (H.disk a.host.now) (H.disk b.host.now) f.5,
+      λ told. (f.5.goes told).keeps,
     ) };
 
     ghost comes_on = { λ a b c f g. (
@@ -160,6 +165,8 @@ impl<'a, H: Host> Ground for PageGround<'a, H> {
       reads_further H.tells a.reader b.reader c.reader (H.disk a.host.now).seen
           (H.disk b.host.now).seen (H.disk c.host.now).seen f.5 g.5,
       λ told. g.6 told ∙ f.6 told,
+      λ told. keeps_through (H.disk a.host.now) (H.disk b.host.now) (H.disk c.host.now)
+          (f.7 told) (g.7 told),
     ) };
 
     ghost fits_on = { λ a b f commits rows room. subst

@@ -9,6 +9,7 @@ ghost use Rattle.mdb_model.specs.declared.name.Name.{Name};
 ghost use Rattle.mdb_model.specs.Tables.{with_changes};
 ghost use Rattle.mdb_bytes.specs.Fields.{Spells};
 ghost use Rattle.mdb_bytes.specs.Groups.{group_format};
+ghost use Rattle.mdb_host.specs.Disk.{Keeps};
 ghost use Rattle.page_store.specs.Opens.{own_pages};
 ghost use Rattle.page_store.specs.SavingStays.{numbers_left};
 ghost use Rattle.page_store.specs.Store.{block_count};
@@ -81,6 +82,7 @@ pub fn set_group<'a, H: Host>(
         → IfErr result (λ fault. fault ≡ Failed) }
     ensures area { IsSameArea store.old store.new }
     ensures log { H.tells → (H.disk host.new).seen Log ≡ (H.disk host.old).seen Log }
+    ensures keeps { H.tells → Keeps (H.disk host.old) (H.disk host.new) }
     ensures say_faults { H.say_faults host.new ≡ H.say_faults host.old }
 {
     let number = reader.number;

@@ -13,3 +13,4 @@ pub mod Texts
 pub mod Tying
 pub mod ScanLines
 pub mod NextSaid
+pub mod TiedRecords

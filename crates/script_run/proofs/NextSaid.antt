@@ -1,7 +1,6 @@
 -- The next row of a scan, once it was read and said.
 --     row_said, row_cut, end_said, fault_said      the row was said, or not to its end; there is none; it could not be read
 --     next_err      where saying it failed
---     meets_still      a kernel meets the devices, which stay as they are
 use Rattle.std.proofs.Common.{◌≡◌, sym, subst, ap, ◌∙◌, ℕ, List, [], ◌++◌, Option, Result, Ok, Err, IsErr, append-nil, arith}
 use Rattle.mdb_model.specs.declared.name.Session.{Session}
 use Rattle.mdb_model.specs.declared.name.Table.{Table}
@@ -14,10 +13,9 @@ use Rattle.mdb_model.specs.Images.{Image}
 use Rattle.mdb_model.specs.Text.{line_of, item_words}
 use Rattle.mdb_model.specs.Worlds.{World}
 use Rattle.mdb_host.specs.Disk.{Disk, Keeps}
-use Rattle.mdb_host.proofs.Moments.{same_image}
 use Rattle.mdb_bytes.specs.Held.{next_row}
 use Rattle.db_kernel.specs.declared.database.Database.{Database}
-use Rattle.db_kernel.specs.Kept.{Meets, scanned_rows}
+use Rattle.db_kernel.specs.Kept.{scanned_rows}
 use Rattle.db_kernel.specs.Scanning.{ReadsRow}
 use Rattle.db_kernel.specs.Working.{StandsForOneOf}
 use Rattle.db_kernel.proofs.Fitting.{fits_still}
@@ -25,9 +23,6 @@ use Rattle.mdb_model.specs.Tables.{Tables}
 use Rattle.script_run.specs.Scans.{GoesOn, SaysNext}
 use Rattle.script_run.specs.Speaking.{Speaks, SaysWhile, row_text}
 use Rattle.script_run.proofs.Speaking.{still_of, says_of, says_read, says_on}
-
-pub meets_still : (old new : Disk) (text : List ℕ) → Speaks old new text → (database : Option Database) → Meets database old.seen → Meets database new.seen
-meets_still old new text speaks database meets = subst (λ (image : Image). Meets database image) (same_image old.seen new.seen speaks.seen) meets
 
 module _ (d0 d1 : Disk) (keeps : Keeps d0 d1) (ws : List World) (before after : Option Database) (session : Session) (table : Table) (from key value : List ℕ) where
   abbrev One : Image → Type 0

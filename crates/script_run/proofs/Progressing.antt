@@ -33,6 +33,12 @@ reads_push [] (l ∷ ls) text line h reads = absurd h
 reads_push (t ∷ texts) [] text line h reads = absurd h
 reads_push (t ∷ texts) (l ∷ ls) text line h reads = (h.0, reads_push texts ls text line h.1 reads)
 
+-- each line counts as one or more
+pub weighs : (kind : LineKind) → 1 ≤ weight_in kind
+weighs Text = omega arith
+weighs (TooLong lines) = omega arith
+weighs End = omega arith
+
 -- before the first line
 pub progress_first : (d : Disk) (f : ℕ) (ws : List World) (database : Option Database) (reader : Reading) (told : Option (List ℕ)) → ((left : List ℕ) → HasRead reader [] left []) → FitsWorlds database d ws → LeavesOnly page_reading StandsFor d ws
     → Progress d d f f ws database reader told told 0

@@ -1,5 +1,5 @@
 //! The run of a script, line by line.
-ghost use Rattle.std.specs.Prelude.{◌≡◌, ℕ, ◌≤◌, ◌<◌, List, Bool, length, IfOk, IsTrue, Some, false};
+ghost use Rattle.std.specs.Prelude.{◌≡◌, ℕ, ◌+◌, ◌-◌, ◌^◌, ◌≤◌, ◌<◌, List, Bool, length, max, IfOk, IsTrue, Some, false};
 ghost use Rattle.mdb_model.specs.Answers.{refused};
 ghost use Rattle.mdb_model.specs.Causes.{Rose, HasCause};
 ghost use Rattle.mdb_model.specs.declared.script.Command.{Command};
@@ -7,7 +7,7 @@ ghost use Rattle.mdb_model.specs.Runs.{Line};
 ghost use Rattle.mdb_model.specs.Script.{is_in_range};
 ghost use Rattle.mdb_model.specs.Worlds.{World};
 ghost use Rattle.mdb_host.specs.Disk.{Disk, Keeps};
-ghost use Rattle.db_kernel.specs.Kept.{Ready, Meets, FitsWorlds};
+ghost use Rattle.db_kernel.specs.Kept.{IsSoundKernel, FitsWorlds, greatest_in};
 ghost use Rattle.db_kernel.specs.Stretch.{LeavesOnly, Completes};
 ghost use Rattle.script_run.specs.Calls.{EndsRun, RunPromise};
 ghost use Rattle.script_run.specs.Progress.{DoesLine, HandlesLine, IsLineText, is_end as no_line, weight_in};
@@ -22,17 +22,20 @@ use mdb_model::script::{Command, Refusal, Reply};
 use mdb_model::status::Status;
 use script_lines::{LineKind, LineReader};
 use std::alloc::Global;
-// Says all that answers a command.
+
+// Says all that answers a command. The numbers of the database have room left to grow in it, so
+// that the rows of a scan may be read after it.
 fn answer_command<H: Host>(
     kernel: &mut Kernel,
     host: &mut H,
     command: &Command,
 ) -> Result<(), Failed>
     requires range { IsTrue (is_in_range command.now) }
-    requires ready { Ready kernel.old.database }
-    requires meets { H.tells → Meets kernel.old.database (H.disk host.old).seen }
-    ensures ready { Ready kernel.new.database }
-    ensures meets { H.tells → Meets kernel.new.database (H.disk host.new).seen }
+    requires sound { IsSoundKernel H.tells kernel.old.database (H.disk host.old) }
+    requires low { greatest_in kernel.old.database ≤ 2 ^ 62 - 2 ^ 41 }
+    ensures sound { IsSoundKernel H.tells kernel.new.database (H.disk host.new) }
+    ensures numbers { greatest_in kernel.new.database
+        ≤ max (2 ^ 61) (greatest_in kernel.old.database) + 2 ^ 35 }
     ensures keeps { H.tells → Keeps (H.disk host.old) (H.disk host.new) }
     ensures does { H.tells → (ws : List World)
         → FitsWorlds kernel.old.database (H.disk host.old) ws
@@ -54,10 +57,10 @@ fn answer_command<H: Host>(
 
 // Says the reply to a line that the kernel does not take.
 fn refuse<H: Host>(kernel: &Kernel, host: &mut H, refusal: Refusal) -> Result<(), Failed>
-    requires meets { H.tells → Meets kernel.now.database (H.disk host.old).seen }
+    requires sound { IsSoundKernel H.tells kernel.now.database (H.disk host.old) }
     requires cause { refusal ≡ Refusal.DeviceFailed → ⊥ }
     requires end { refusal ≡ Refusal.NumberEnd → ⊥ }
-    ensures meets { H.tells → Meets kernel.now.database (H.disk host.new).seen }
+    ensures sound { IsSoundKernel H.tells kernel.now.database (H.disk host.new) }
     ensures keeps { H.tells → Keeps (H.disk host.old) (H.disk host.new) }
     ensures does { H.tells → (ws : List World) (line : Line)
         → Completes page_reading StandsFor (H.disk host.old) (H.disk host.old) ws line
@@ -77,10 +80,11 @@ fn take_line<H: Host>(
     host: &mut H,
     line: &[u8],
 ) -> Result<bool, Failed>
-    requires ready { Ready kernel.old.database }
-    requires meets { H.tells → Meets kernel.old.database (H.disk host.old).seen }
-    ensures ready { Ready kernel.new.database }
-    ensures meets { H.tells → Meets kernel.new.database (H.disk host.new).seen }
+    requires sound { IsSoundKernel H.tells kernel.old.database (H.disk host.old) }
+    requires low { greatest_in kernel.old.database ≤ 2 ^ 62 - 2 ^ 41 }
+    ensures sound { IsSoundKernel H.tells kernel.new.database (H.disk host.new) }
+    ensures numbers { greatest_in kernel.new.database
+        ≤ max (2 ^ 61) (greatest_in kernel.old.database) + 2 ^ 35 }
     ensures keeps { H.tells → Keeps (H.disk host.old) (H.disk host.new) }
     ensures still { IfOk result (λ answered. answered ≡ false
         → (host.new ≡ host.old) × (kernel.new ≡ kernel.old)) }
@@ -103,8 +107,8 @@ fn take_line<H: Host>(
 
 // Says the reply to a line that is too long.
 fn refuse_line<H: Host>(kernel: &Kernel, host: &mut H) -> Result<bool, Failed>
-    requires meets { H.tells → Meets kernel.now.database (H.disk host.old).seen }
-    ensures meets { H.tells → Meets kernel.now.database (H.disk host.new).seen }
+    requires sound { IsSoundKernel H.tells kernel.now.database (H.disk host.old) }
+    ensures sound { IsSoundKernel H.tells kernel.now.database (H.disk host.new) }
     ensures keeps { H.tells → Keeps (H.disk host.old) (H.disk host.new) }
     ensures answered { IfOk result (λ answered. answered ≡ false → ⊥) }
     ensures turned { H.tells → (ws : List World)
@@ -127,10 +131,11 @@ fn answer<H: Host>(
     kind: LineKind,
     found: &[u8],
 ) -> Result<bool, Failed>
-    requires ready { Ready kernel.old.database }
-    requires meets { H.tells → Meets kernel.old.database (H.disk host.old).seen }
-    ensures ready { Ready kernel.new.database }
-    ensures meets { H.tells → Meets kernel.new.database (H.disk host.new).seen }
+    requires sound { IsSoundKernel H.tells kernel.old.database (H.disk host.old) }
+    requires low { greatest_in kernel.old.database ≤ 2 ^ 62 - 2 ^ 41 }
+    ensures sound { IsSoundKernel H.tells kernel.new.database (H.disk host.new) }
+    ensures numbers { greatest_in kernel.new.database
+        ≤ max (2 ^ 61) (greatest_in kernel.old.database) + 2 ^ 35 }
     ensures keeps { H.tells → Keeps (H.disk host.old) (H.disk host.new) }
     ensures still { IfOk result (λ answered. answered ≡ false
         → (host.new ≡ host.old) × (kernel.new ≡ kernel.old)) }

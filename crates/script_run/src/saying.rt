@@ -1,5 +1,5 @@
 //! Saying what answers a line: a reply by one call, and the rows of a scan one by one.
-ghost use Rattle.std.specs.Prelude.{◌≡◌, ℕ, ◌≤◌, ◌<◌, ◌++◌, List, IfOk, OnOk, IsTrue};
+ghost use Rattle.std.specs.Prelude.{◌≡◌, ℕ, ◌-◌, ◌^◌, ◌≤◌, ◌<◌, ◌++◌, List, Option, IfOk, OnOk, IsTrue};
 ghost use Rattle.mdb_model.specs.Answers.{plain, Row};
 ghost use Rattle.mdb_model.specs.Causes.{HasCause};
 ghost use Rattle.mdb_model.specs.Script.{is_session, is_table};
@@ -7,7 +7,8 @@ ghost use Rattle.mdb_model.specs.Steps.{rows_of};
 ghost use Rattle.mdb_model.specs.Text.{line_of, item_words, reply_words, text_of};
 ghost use Rattle.mdb_model.specs.Worlds.{World};
 ghost use Rattle.mdb_host.specs.Disk.{Disk, Keeps};
-ghost use Rattle.db_kernel.specs.Kept.{Ready, Meets, FitsWorlds, scanned_rows};
+ghost use Rattle.db_kernel.specs.declared.database.Database.{Database};
+ghost use Rattle.db_kernel.specs.Kept.{IsSoundKernel, FitsWorlds, greatest_in, scanned_rows};
 ghost use Rattle.db_kernel.specs.Outside.{page_reading, StandsFor};
 ghost use Rattle.db_kernel.specs.Scanning.{FaultHasCause};
 ghost use Rattle.db_kernel.specs.Stretch.{LeavesOnly};
@@ -27,6 +28,8 @@ fn say_end<H: Host>(host: &mut H, items: u64, reply: &Reply) -> Result<(), Faile
         (line_of (reply_words items reply.now)) }
     ensures said { OnOk result (H.tells → (H.disk host.new).said (H.disk host.new).now
         ≡ (H.disk host.old).said (H.disk host.old).now ++ line_of (reply_words items reply.now)) }
+    ensures sound { (database : Option Database) → IsSoundKernel H.tells database (H.disk host.old)
+        → IsSoundKernel H.tells database (H.disk host.new) }
     ensures faults { H.faults host.new ≡ H.faults host.old }
     ensures say_cause { HasCause (H.say_faults host.old) (H.say_faults host.new) result }
 {
@@ -41,6 +44,8 @@ pub fn say_reply<H: Host>(host: &mut H, reply: &Reply) -> Result<(), Failed>
         (text_of (plain reply.now)) }
     ensures said { OnOk result (H.tells → (H.disk host.new).said (H.disk host.new).now
         ≡ (H.disk host.old).said (H.disk host.old).now ++ text_of (plain reply.now)) }
+    ensures sound { (database : Option Database) → IsSoundKernel H.tells database (H.disk host.old)
+        → IsSoundKernel H.tells database (H.disk host.new) }
     ensures faults { H.faults host.new ≡ H.faults host.old }
     ensures say_cause { HasCause (H.say_faults host.old) (H.say_faults host.new) result }
 {
@@ -54,6 +59,8 @@ fn say_row<H: Host>(host: &mut H, key: &KeyBuf, value: &ValueBuf) -> Result<(), 
     ensures said { OnOk result (H.tells → (H.disk host.new).said (H.disk host.new).now
         ≡ (H.disk host.old).said (H.disk host.old).now
         ++ line_of (item_words (Row key.now.items value.now.items))) }
+    ensures sound { (database : Option Database) → IsSoundKernel H.tells database (H.disk host.old)
+        → IsSoundKernel H.tells database (H.disk host.new) }
     ensures faults { H.faults host.new ≡ H.faults host.old }
     ensures say_cause { HasCause (H.say_faults host.old) (H.say_faults host.new) result }
 {
@@ -72,10 +79,10 @@ fn say_next<H: Host>(
 ) -> Result<Next, Failed>
     requires session { IsTrue (is_session session.0) }
     requires table { IsTrue (is_table table.0) }
-    requires ready { Ready kernel.old.database }
-    requires meets { H.tells → Meets kernel.old.database (H.disk host.old).seen }
-    ensures ready { Ready kernel.new.database }
-    ensures meets { H.tells → Meets kernel.new.database (H.disk host.new).seen }
+    requires sound { IsSoundKernel H.tells kernel.old.database (H.disk host.old) }
+    requires low { greatest_in kernel.old.database ≤ 2 ^ 62 - 2 ^ 40 }
+    ensures sound { IsSoundKernel H.tells kernel.new.database (H.disk host.new) }
+    ensures numbers { greatest_in kernel.new.database ≤ greatest_in kernel.old.database }
     ensures keeps { H.tells → Keeps (H.disk host.old) (H.disk host.new) }
     ensures says { H.tells → (ws : List World)
         → FitsWorlds kernel.old.database (H.disk host.old) ws
@@ -111,10 +118,10 @@ fn say_rows<H: Host>(
 ) -> Result<(u64, Reply), Failed>
     requires session { IsTrue (is_session session.0) }
     requires table { IsTrue (is_table table.0) }
-    requires ready { Ready kernel.old.database }
-    requires meets { H.tells → Meets kernel.old.database (H.disk host.old).seen }
-    ensures ready { Ready kernel.new.database }
-    ensures meets { H.tells → Meets kernel.new.database (H.disk host.new).seen }
+    requires sound { IsSoundKernel H.tells kernel.old.database (H.disk host.old) }
+    requires low { greatest_in kernel.old.database ≤ 2 ^ 62 - 2 ^ 40 }
+    ensures sound { IsSoundKernel H.tells kernel.new.database (H.disk host.new) }
+    ensures numbers { greatest_in kernel.new.database ≤ greatest_in kernel.old.database }
     ensures keeps { H.tells → Keeps (H.disk host.old) (H.disk host.new) }
     ensures says { H.tells → (ws : List World)
         → IsOpenScan (H.disk host.old) ws kernel.old.database session table
@@ -146,10 +153,10 @@ pub fn say_scan<H: Host>(
 ) -> Result<(), Failed>
     requires session { IsTrue (is_session session.0) }
     requires table { IsTrue (is_table table.0) }
-    requires ready { Ready kernel.old.database }
-    requires meets { H.tells → Meets kernel.old.database (H.disk host.old).seen }
-    ensures ready { Ready kernel.new.database }
-    ensures meets { H.tells → Meets kernel.new.database (H.disk host.new).seen }
+    requires sound { IsSoundKernel H.tells kernel.old.database (H.disk host.old) }
+    requires low { greatest_in kernel.old.database ≤ 2 ^ 62 - 2 ^ 40 }
+    ensures sound { IsSoundKernel H.tells kernel.new.database (H.disk host.new) }
+    ensures numbers { greatest_in kernel.new.database ≤ greatest_in kernel.old.database }
     ensures keeps { H.tells → Keeps (H.disk host.old) (H.disk host.new) }
     ensures says { H.tells → (ws : List World)
         → IsOpenScan (H.disk host.old) ws kernel.old.database session table

@@ -1,5 +1,6 @@
 -- The ends of a transaction, in a world that is counted.
 --     rolled      a rollback
+--     given_up      the world without the transaction
 --     committed_served      the rows after a commit
 use Rattle.std.proofs.Common.{sym, ◌∙◌, false, true, IsTrue}
 use Rattle.std.specs.List.{list_all}
@@ -39,6 +40,19 @@ module _ (rows : Tables) (old new : Ongoing) (w : World) (s : IsServed rows old 
         counted_matched new (without_transaction w session.0) (λ number is. stands.changes number is) stands.numbered sessions served.stands (ended known session.0 false) (counted_rolled known w c session.0),
       ))
       (rollback_answered no_pages rows old new w s session is_one end)
+
+  -- the world without the transaction
+  pub given_up : Serves rows new (ended known session.0 false) (without_transaction w session.0)
+  given_up = (
+    record {
+      online = s.online;
+      tables = s.tables;
+      keys = s.keys;
+      stands = stands-ended old new w s.stands session.0 is_one end;
+      most = end.most ∙ s.most;
+    },
+    counted_rolled known w c session.0,
+  )
 
   -- a commit
   pub committed_served : IsTrue (list_all change_fits (values (changes_of old session.0))) → Serves (seen_rows rows old session.0) new (ended known session.0 true) (committed_by w session.0)

@@ -7,3 +7,4 @@ pub mod Notes
 pub mod Lines
 pub mod Ends
 pub mod LockTaken
+pub mod LocksOnly

@@ -5,7 +5,7 @@ ghost use Rattle.mdb_model.specs.Script.{is_session};
 ghost use Rattle.mdb_model.specs.Space.{need};
 ghost use Rattle.mdb_model.specs.Steps.{committed_by};
 ghost use Rattle.mdb_model.specs.Tables.{Tables};
-ghost use Rattle.mdb_model.specs.Worlds.{World};
+ghost use Rattle.mdb_model.specs.Worlds.{World, without_transaction};
 ghost use Rattle.mdb_model.specs.declared.script.Command.TheVariants.{RollbackWork};
 ghost use Rattle.transactions.specs.Ongoing.{EndsTransaction};
 ghost use Rattle.session_rows.specs.Scan.{seen_rows};
@@ -26,6 +26,10 @@ pub fn give_up(transactions: &mut Transactions, space: &mut Space, session: Sess
         → IsCounted (known_costs space.old) w
         → IsAnswered no_pages w (RollbackWork session) (plain result)
         (λ after. IsServed rows transactions.new after × IsCounted (known_costs space.new) after) }
+    ensures given_up { (rows : Tables) (w : World) → IsServed rows transactions.old w
+        → IsCounted (known_costs space.old) w
+        → IsServed rows transactions.new (without_transaction w session.0)
+        × IsCounted (known_costs space.new) (without_transaction w session.0) }
     ensures ended { EndsTransaction transactions.old transactions.new session.0 }
     ensures settled { known_costs space.new ≡ ended_costs (known_costs space.old) session.0 false }
     ensures reply { result ≡ Reply.RolledBack }

@@ -1,6 +1,6 @@
 //! The calls on rows, over a page store and its devices: each makes one view of the store and one
 //! keeper of tables over it.
-ghost use Rattle.std.specs.Prelude.{◌≡◌, ℕ, ◌+◌, ◌≤◌, IsTrue, IfOk, IfErr, OnOk, is_some};
+ghost use Rattle.std.specs.Prelude.{◌≡◌, ℕ, ◌+◌, ◌^◌, ◌<◌, ◌≤◌, IsTrue, IfOk, IfErr, OnOk, is_some};
 ghost use Rattle.std.specs.FinMap.{get, insert, remove};
 ghost use Rattle.mdb_model.specs.declared.change.Change.TheVariants.{Put, Del};
 ghost use Rattle.mdb_model.specs.Script.{is_table, is_key};
@@ -158,6 +158,8 @@ pub fn cost_of_table<H: Host>(
         → IfOk result (λ cost. cost
         ≡ table_cost (stored_rows store.old (H.disk host.old).seen)
         (stored_rows store.old (H.disk host.old).seen) table.0) }
+    ensures small { HasRows H.tells store.old (H.disk host.old).seen
+        → IfOk result (λ cost. cost < 2 ^ 62) }
     ensures same { HasRows H.tells store.old (H.disk host.old).seen
         → OnOk result (HasRows H.tells store.new (H.disk host.new).seen
         × (stored_rows store.new (H.disk host.new).seen

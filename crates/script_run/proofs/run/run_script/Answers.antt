@@ -1,15 +1,15 @@
-use Rattle.std.proofs.Common.{sym, subst, ◌≡◌, ◌+◌, ◌≤◌, ℕ, List, Option, None, Ok, Err, map, arith}
+use Rattle.std.proofs.Common.{sym, subst, ◌≡◌, ◌+◌, ◌^◌, ◌≤◌, ℕ, List, Option, None, Ok, Err, map, arith}
 use Rattle.mdb_host.proofs.Moments.{keeps_all, keeps_on}
 use Rattle.mdb_model.specs.Runs.{last_worlds}
 use Rattle.db_kernel.specs.declared.kernel.Kernel.{Kernel}
 use Rattle.mdb_model.specs.Agreement.{Ages}
 use Rattle.mdb_model.specs.Worlds.{World}
 use Rattle.db_kernel.specs.declared.database.Database.{Database}
-use Rattle.db_kernel.specs.Kept.{Ready, Meets, FitsWorlds}
-use Rattle.db_kernel.proofs.Fitting.{fits_off}
+use Rattle.db_kernel.specs.Kept.{IsSoundKernel, FitsWorlds, greatest_in}
+use Rattle.db_kernel.proofs.Fitting.{fits_off, sound_off}
 use Rattle.script_run.specs.Progress.{IsLineText, weight_in, Progress, HandlesLine}
 use Rattle.script_run.proofs.Calls.{memory_keeps}
-use Rattle.script_run.proofs.Progressing.{progress_first, progress_turned, ends_done, ends_script, ends_limit, ends_say}
+use Rattle.script_run.proofs.Progressing.{weighs, progress_first, progress_turned, ends_done, ends_script, ends_limit, ends_say}
 use Rattle.script_run.proofs.Turns.{start_stand, start_rest, start_serial}
 use Rattle.script_run.proofs.run.run_script.Goals as goal
 use Rattle.db_kernel.specs.Outside.{page_reading, StandsFor}
@@ -24,8 +24,8 @@ loop-count-init g c =
     let none : c.new-kernel.result.database ≡ None = c.new-kernel.ensures in
     record {
       count = omega arith;
-      ready = subst (λ (o : Option Database). Ready o) (sym none) tt;
-      meets = λ told. subst (λ (o : Option Database). Meets o d.seen) (sym none) tt;
+      sound = subst (λ (o : Option Database). IsSoundKernel g.H.Host.tells o d) (sym none) (sound_off g.H.Host.tells d);
+      numbers = subst (λ (o : Option Database). greatest_in o ≤ 2 ^ 61 + 0) (sym none) (omega arith);
       keeps = λ told. keeps_all d;
       faults = omega arith;
       say_faults = omega arith;
@@ -65,6 +65,11 @@ returns-then-count-gt-MOST_LINES-clause-promise g c told from can =
     c.advance.new.self (g.S.Source.left c.advance.new.source) c.in-Ok-advance.kind (sym c.if-is_end.ensures) c.in-Ok-advance.ensures.advances
     (omega (arith, c.if-count-gt-MOST_LINES.true, c.weight-count.ensures))
 
+pub answer-requires-clause-low : goal.answer-requires-clause-low
+answer-requires-clause-low g c =
+    let inv = c.loop-count.invariant in
+    omega (arith, inv.numbers, inv.count)
+
 pub loop-count-preserved : goal.loop-count-preserved
 loop-count-preserved g c =
     let d0 = g.H.Host.disk c.args.host.now in
@@ -77,8 +82,8 @@ loop-count-preserved g c =
     let left2 = g.S.Source.left c.advance.new.source in
     record {
       count = omega (arith, c.if-count-gt-MOST_LINES.false);
-      ready = c.answer.ensures.ready;
-      meets = c.answer.ensures.meets;
+      sound = c.answer.ensures.sound;
+      numbers = omega (arith, inv.numbers, c.answer.ensures.numbers, c.weight-count.ensures, weighs c.in-Ok-advance.kind);
       keeps = λ told. keeps_on d0 d1 d2 (inv.keeps told) (c.answer.ensures.keeps told);
       faults = omega (arith, inv.faults, c.answer.ensures.later);
       say_faults = omega (arith, inv.say_faults, c.answer.ensures.say_cause.later);

@@ -1,7 +1,7 @@
-use Rattle.std.proofs.Common.{◌-◌, ◌≤◌, List}
+use Rattle.std.proofs.Common.{◌+◌, ◌-◌, ◌*◌, ◌^◌, ◌≤◌, List}
 use Rattle.mdb_host.specs.Disk.{Keeps}
 use Rattle.mdb_model.specs.Worlds.{World}
-use Rattle.db_kernel.specs.Kept.{AreOff, Ready, Meets}
+use Rattle.db_kernel.specs.Kept.{AreOff, IsSoundKernel, greatest_in}
 use Rattle.db_kernel.specs.Stretch.{LeavesOnly}
 use Rattle.script_run.specs.Progress.{Progress}
 use Rattle.script_run.proofs.run.run_script.Given as goal
@@ -10,8 +10,8 @@ use Rattle.db_kernel.specs.Outside.{page_reading, StandsFor}
 abbrev pub invariant-loop-count : goal.invariant-loop-count
 invariant-loop-count g l = record {
   count : l.count ≤ 16777216;
-  ready : Ready l.kernel.database;
-  meets : g.H.Host.tells → Meets l.kernel.database (g.H.Host.disk l.host).seen;
+  sound : IsSoundKernel g.H.Host.tells l.kernel.database (g.H.Host.disk l.host);
+  numbers : greatest_in l.kernel.database ≤ 2 ^ 61 + l.count * 2 ^ 35;
   keeps : g.H.Host.tells → Keeps (g.H.Host.disk l.fn.host) (g.H.Host.disk l.host);
   faults : g.H.Host.faults l.fn.host ≤ g.H.Host.faults l.host;
   say_faults : g.H.Host.say_faults l.fn.host ≤ g.H.Host.say_faults l.host;

@@ -16,8 +16,8 @@ loop-rows-init g c =
     let d = g.H.Host.disk c.args.host.now in
     let database = c.args.kernel.now.database in
     record {
-      ready = c.requires.ready;
-      meets = c.requires.meets;
+      sound = c.requires.sound;
+      numbers = omega arith;
       keeps = λ told. keeps_all d;
       said = λ told ws opened.
           subst (λ (after : List ℕ). SaidTo ws database c.args.session c.args.table d d database 0 after) (sym c.new-after.ensures) (said_first ws database c.args.session c.args.table d opened);
@@ -56,8 +56,8 @@ loop-rows-preserved g c =
     let from = c.loop-rows.after.items in
     let key = c.say_next.new.after.items in
     record {
-      ready = c.say_next.ensures.ready;
-      meets = c.say_next.ensures.meets;
+      sound = c.say_next.ensures.sound;
+      numbers = omega (arith, inv.numbers, c.say_next.ensures.numbers);
       keeps = λ told. keeps_on d0 d1 d2 (inv.keeps told) (c.say_next.ensures.keeps told);
       said = λ told ws opened.
           let so = inv.said told ws opened in

@@ -3,6 +3,7 @@ use Rattle.page_ground.proofs.Passing.{err_passed}
 use Rattle.redo_ring.specs.declared.ring.Ring.{Ring}
 use Rattle.live_area.specs.Serving.{ServesWorld, SavepointLeaves}
 use Rattle.live_area.proofs.CaughtUp.{sound_redone, each_kept, only_failed, served, fits, then_saves}
+use Rattle.page_ground.specs.AimLaws.{keeps_through}
 use Rattle.live_area.proofs.area.LiveArea.catch_up.Goals as goal
 
 pub returns-in_err-redo-clause-leaves : goal.returns-in_err-redo-clause-leaves
@@ -35,3 +36,7 @@ returns-clause-leaves g c told w awaits low_end low_last =
     (fits g.H.Host.tells c.args.self.now.in_force c.redo.new.self.in_force c.args.self.now.store c.redo.new.self.store c.args.self.now.ring c.redo.new.self.ring (g.H.Host.disk c.args.host.now) (g.H.Host.disk c.redo.new.host) w _
     awaits c.requires.sound.there left left2 low_end low_last c.in_ok-redo.ensures.redone c.redo.ensures.ring)
     (let e = ap (λ (x : Ring). x.end_position) c.redo.ensures.ring in omega (arith, e, low_end)) (let e = ap (λ (x : Ring). x.last_commit) c.redo.ensures.ring in omega (arith, e, low_last)))
+
+pub returns-clause-keeps : goal.returns-clause-keeps
+returns-clause-keeps g c told =
+    keeps_through (g.H.Host.disk c.args.host.now) (g.H.Host.disk c.redo.new.host) (g.H.Host.disk c.savepoint.new.host) (c.redo.ensures.keeps told) (c.savepoint.ensures.keeps told)

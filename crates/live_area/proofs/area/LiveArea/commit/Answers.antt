@@ -4,6 +4,7 @@ use Rattle.redo_ring.specs.Calls.{AppendAnswer}
 use Rattle.redo_ring.specs.declared.fault.RingFault.{RingFault}
 use Rattle.live_area.proofs.Appended.{each_either}
 use Rattle.live_area.proofs.Committed.{can_save_after, group_some, sound_set, either, served, only_failed}
+use Rattle.page_ground.specs.AimLaws.{keeps_through}
 use Rattle.live_area.proofs.area.LiveArea.commit.Goals as goal
 
 pub set_last-requires-clause-can_save : goal.set_last-requires-clause-can_save
@@ -50,3 +51,18 @@ returns-in-Err-Failed-clause-leaves g c told w c' spelled serves can =
     let answer = subst (λ (f : RingFault). AppendAnswer c.args.self.now.ring.size (c.args.self.now.ring.end_position - c.args.self.now.ring.saved_position) (c.args.self.now.ring.end_position - c.args.self.now.ring.redo_position) (length c.args.group.now) (Err f)) c.in-Err-Failed.field-0-is c.in-Err-Failed.ensures.answer in
     each_either g.H.Host.tells c.args.self.now.in_force.slots c.args.self.now.in_force.record c.args.self.now.store c.args.self.now.ring (g.H.Host.disk c.args.host.now) (g.H.Host.disk c.append.new.host) w c' _ c.args.group.now
     serves can c.requires.sound.order (group_long (record { name = c.args.self.now.ring.name; number = c.args.self.now.ring.last_commit + 1; changes = c'.changes }) c.args.group.now spelled).0 c.requires.low answer.0 answer.1 (c.append.ensures.any_moment told c'.changes spelled)
+
+pub returns-in-Ok-set_last-clause-keeps : goal.returns-in-Ok-set_last-clause-keeps
+returns-in-Ok-set_last-clause-keeps g c told =
+    keeps_through (g.H.Host.disk c.args.host.now) (g.H.Host.disk c.append.new.host) (g.H.Host.disk c.set_last.new.host)
+    (c.append.ensures.any_moment told c.requires.due.0 c.requires.due.1).keeps (c.set_last.ensures.keeps told)
+
+pub returns-in-Err-Failed-set_last-clause-keeps : goal.returns-in-Err-Failed-set_last-clause-keeps
+returns-in-Err-Failed-set_last-clause-keeps g c told =
+    keeps_through (g.H.Host.disk c.args.host.now) (g.H.Host.disk c.append.new.host) (g.H.Host.disk c.set_last.new.host)
+    (c.append.ensures.any_moment told c.requires.due.0 c.requires.due.1).keeps (c.set_last.ensures.keeps told)
+
+pub returns-in-Err-Damaged-clause-keeps : goal.returns-in-Err-Damaged-clause-keeps
+returns-in-Err-Damaged-clause-keeps g c told =
+    keeps_through (g.H.Host.disk c.args.host.now) (g.H.Host.disk c.append.new.host) (g.H.Host.disk c.set_last.new.host)
+    (c.append.ensures.any_moment told c.requires.due.0 c.requires.due.1).keeps (c.set_last.ensures.keeps told)

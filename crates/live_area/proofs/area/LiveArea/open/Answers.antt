@@ -7,6 +7,7 @@ use Rattle.live_area.specs.Serving.{ServesWorld, SavepointLeaves}
 use Rattle.live_area.specs.Awaiting.{OpenLeaves}
 use Rattle.live_area.proofs.Found.{reads_each}
 use Rattle.live_area.proofs.Opened.{not_opened, low_end, low_last, then_opens}
+use Rattle.page_ground.specs.AimLaws.{keeps_through}
 use Rattle.live_area.proofs.area.LiveArea.open.Goals as goal
 
 pub returns-in_err-area-clause-opens : goal.returns-in_err-area-clause-opens
@@ -39,3 +40,15 @@ returns-clause-opens g c told w found =
     subst (λ (f : PageFault). SavepointLeaves (g.H.Host.disk c.read.new.host) (g.H.Host.disk c.catch_up.new.host) w serves (Err f)) c.in-Err-Damaged.field-0-is
     (c.in-Err-Damaged.ensures.leaves told w (c.in_ok-area.ensures.awaits told w found) (low_end c.args.start.now c.in_ok-area.area.ring c.requires.start c.in_ok-area.ensures.opened c.requires.low)
     (low_last c.args.start.now c.in_ok-area.area.ring c.requires.start c.in_ok-area.ensures.opened c.requires.low c.requires.few))
+
+pub returns-in-Ok-clause-keeps : goal.returns-in-Ok-clause-keeps
+returns-in-Ok-clause-keeps g c told =
+    keeps_through (g.H.Host.disk c.args.host.now) (g.H.Host.disk c.read.new.host) (g.H.Host.disk c.catch_up.new.host) (c.read.ensures.reads.calm told).keeps (c.catch_up.ensures.keeps told)
+
+pub returns-in-Err-Failed-clause-keeps : goal.returns-in-Err-Failed-clause-keeps
+returns-in-Err-Failed-clause-keeps g c told =
+    keeps_through (g.H.Host.disk c.args.host.now) (g.H.Host.disk c.read.new.host) (g.H.Host.disk c.catch_up.new.host) (c.read.ensures.reads.calm told).keeps (c.catch_up.ensures.keeps told)
+
+pub returns-clause-keeps : goal.returns-clause-keeps
+returns-clause-keeps g c told =
+    keeps_through (g.H.Host.disk c.args.host.now) (g.H.Host.disk c.read.new.host) (g.H.Host.disk c.catch_up.new.host) (c.read.ensures.reads.calm told).keeps (c.catch_up.ensures.keeps told)

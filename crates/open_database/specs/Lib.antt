@@ -1,0 +1,13 @@
+pub mod Outside
+pub mod Stretch
+pub mod Serving
+pub mod Groups
+pub mod Refusing
+pub mod Replies
+pub mod Costs
+pub mod Opened
+pub mod Taking
+pub mod Stage
+pub mod Saving
+pub mod RowLines
+pub mod Scanning

@@ -1,0 +1,13 @@
+//! An open database, with its rows on pages: what its lines do.
+#![tactic(auto)]
+
+mod commit;
+pub mod database;
+mod group;
+mod lines;
+mod opening;
+mod rows;
+mod sizes;
+mod states;
+
+pub use database::{Access, Database};
