@@ -12,3 +12,4 @@ mod Doing
 mod Answering
 mod RowLines
 mod AnyLine
+mod OtherLines

@@ -12,6 +12,7 @@ ghost use Rattle.session_rows.specs.Replies.{IsRefusal};
 ghost use Rattle.open_database.specs.declared.database.Access.TheVariants.{Online};
 ghost use Rattle.open_database.specs.Serving.{IsSoundDatabase, FitsOpen, LineDoes, greatest_number};
 ghost use Rattle.open_database.specs.Refusing.{KeepsDatabase};
+ghost use Rattle.open_database.specs.Replies.{IsInside};
 
 use crate::database::{Access, Database};
 use crate::group::commit_group;
@@ -40,6 +41,7 @@ impl Database {
             → LineDoes H.tells (H.disk host.old) (H.disk host.new) ws (CommitWork session) plain
             self.new result }
         ensures refused { IfOk result (λ reply. IsRefusal reply → KeepsDatabase self.old self.new) }
+        ensures inside { IfOk result IsInside }
         ensures cause { result ≡ Err PageFault.Failed
             → Rose (H.faults host.old) (H.faults host.new) }
         ensures later { H.faults host.old ≤ H.faults host.new }
@@ -66,6 +68,7 @@ impl Database {
             → LineDoes H.tells (H.disk host.old) (H.disk host.new) ws (CommitWork session) plain
             self.new result }
         ensures refused { IfOk result (λ reply. IsRefusal reply → KeepsDatabase self.old self.new) }
+        ensures inside { IfOk result IsInside }
         ensures cause { result ≡ Err PageFault.Failed
             → Rose (H.faults host.old) (H.faults host.new) }
         ensures later { H.faults host.old ≤ H.faults host.new }
@@ -98,6 +101,7 @@ impl Database {
             → LineDoes H.tells (H.disk host.old) (H.disk host.new) ws (CommitWork session) plain
             self.new result }
         ensures refused { IfOk result (λ reply. IsRefusal reply → KeepsDatabase self.old self.new) }
+        ensures inside { IfOk result IsInside }
         ensures cause { result ≡ Err PageFault.Failed
             → Rose (H.faults host.old) (H.faults host.new) }
         ensures later { H.faults host.old ≤ H.faults host.new }

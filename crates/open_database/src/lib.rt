@@ -1,6 +1,7 @@
 //! An open database, with its rows on pages: what its lines do.
 #![tactic(auto)]
 
+mod command;
 mod commit;
 pub mod database;
 mod group;

@@ -85,6 +85,7 @@ impl Database {
             → LineDoes H.tells (H.disk host.old) (H.disk host.new) ws DbAdmin plain
             self.new result }
         ensures refused { IfOk result (λ reply. IsRefusal reply → KeepsDatabase self.old self.new) }
+        ensures inside { IfOk result IsInside }
         ensures cause { HasCause (H.faults host.old) (H.faults host.new) result }
         ensures fault { IfErr result (λ fault. fault ≡ PageFault.Failed) }
         ensures keeps { H.tells → Keeps (H.disk host.old) (H.disk host.new) }
