@@ -23,7 +23,7 @@ use Rattle.volume_disk.specs.Blocks.{place, device_page, block_at, Writes}
 use Rattle.volume_disk.proofs.Pages.{page_agrees, page_kept, data_is}
 use Rattle.volume_disk.proofs.Places.{place_here, place_on, at_least, place_is}
 use Rattle.creation.specs.Making.{HasZeroVolumes, HasFirstPages, HasAllButRecords, IsLogged}
-use Rattle.standing.specs.Standing.{Site, IsSite, AreVolumes, Stands, at_rest, creation_at, ring_of, data_slots, log_slots}
+use Rattle.standing.specs.Standing.{Site, IsSite, AreVolumes, IsNew, ring_of, data_slots, log_slots}
 use Rattle.creation.proofs.Fresh.{data_apart, medium_apart, medium_data, log_data}
 use Rattle.creation.proofs.Zeros.{zeros_device, zeros_len, byte_of_page}
 
@@ -132,14 +132,12 @@ logged_of site seen a b slots body at is are seen_was was begun =
 
 -- what the restart record makes of them
 pub stands_of : (site : Site) (seen a b : Image) (slots : Slots) (body : SlotBody) → slots.place ≡ data_slots → body ≡ Restart (first_restart site.birth site.volumes) → IsSite site
-    → IsLogged site seen → IsLogged site a → Begun seen slots body a b → Stands b (at_rest (creation_at site) [])
+    → IsLogged site seen → IsLogged site a → Begun seen slots body a b → IsNew site b
 stands_of site seen a b slots body at is limits seen_was was begun =
     let torn : Torn (Data 1) 0 16384 a b = subst (λ (p : SlotPlace). Torn p.device (8192 * p.page) 16384 a b) at begun.torn in
     let ready : IsReady slots body b = begun.ready (subst (λ (p : SlotPlace). IsBlank seen p a) (sym at) (blank_data seen a seen_was.slots was.slots)) in
     let same_log : b Log ≡ a Log = torn.others Log (λ e. log_data 1 e) in
     record {
-      site = site;
-      is = refl;
       records = record {
         limits = limits;
         volumes = λ i inside. volume_size torn i ∙ was.sizes.volumes i inside;
@@ -150,7 +148,6 @@ stands_of site seen a b slots body at is limits seen_was was begun =
         pages = λ block low high. kept_block site.volumes a b torn block low (omega (arith, high, root_inside (sum site.volumes) limits.volumes.least)) ∙ was.pages block low high;
       };
       log = λ e. let z : 0 ≡ 79 = sym (ap (λ (o : Option (List ℕ)). byte_at o (16384 + 0 % ring_of site)) same_log ∙ was.log (16384 + 0 % ring_of site) (omega arith)) ∙ e in absurd (omega (arith, z));
-      room = omega (arith, limits.least);
     }
   where
     volume_size : Torn (Data 1) 0 16384 a b → (i : ℕ) → size_of (b (Data (i + 1))) ≡ size_of (a (Data (i + 1)))

@@ -7,7 +7,7 @@ ghost use Rattle.mdb_host.specs.Places.{device_at};
 ghost use Rattle.creation.specs.Devices.{device_count};
 ghost use Rattle.creation.specs.Making.{Each, IsEmpty};
 ghost use Rattle.creation.specs.Quiet.{AnyHow};
-ghost use Rattle.standing.specs.Standing.{IsSite, Stands, at_rest, creation_at};
+ghost use Rattle.standing.specs.Standing.{IsSite, IsNew, at_rest, creation_at};
 ghost use Rattle.standing.specs.WholeStanding.{StandsWhole};
 
 use crate::area::{any_there, make_devices};
@@ -44,8 +44,7 @@ fn make_database<H: Host>(
     }) }
     requires empty { H.tells → Each (H.disk host.old) IsEmpty }
     ensures made { OnOk result (H.tells → Each (H.disk host.new)
-        (λ image. Stands image (at_rest (creation_at
-        (record { birth = birth; volumes = volumes.now.items; log_pages = log_pages })) []))) }
+        (IsNew (record { birth = birth; volumes = volumes.now.items; log_pages = log_pages }))) }
     ensures goes { H.tells → Goes (H.disk host.old) (H.disk host.new) AnyHow }
     ensures cause { HasCause (H.faults host.old) (H.faults host.new) result }
     ensures say_faults { H.say_faults host.new ≡ H.say_faults host.old }
@@ -75,11 +74,7 @@ pub fn create<H: Host>(
       log_pages =
           log_pages;
     }) }
-    ensures done { OnOk result (H.tells → (image : Image)
-        → (H.disk host.new).may_leave (H.disk host.new).now image
-        → Stands image (at_rest (creation_at
-        (record { birth = birth; volumes = volumes.now.items; log_pages = log_pages })) [])) }
-    ensures whole { OnOk result (H.tells → (image : Image)
+    ensures stands { OnOk result (H.tells → (image : Image)
         → (H.disk host.new).may_leave (H.disk host.new).now image
         → StandsWhole image (at_rest (creation_at
         (record { birth = birth; volumes = volumes.now.items; log_pages = log_pages })) [])) }

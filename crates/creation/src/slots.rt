@@ -6,7 +6,7 @@ ghost use Rattle.mdb_host.specs.Disk.{Disk, Goes, IsWithin};
 ghost use Rattle.mdb_bytes.specs.Firsts.{first_restart, first_log_info};
 ghost use Rattle.creation.specs.Making.{Each, HasAllButRecords, IsLogged};
 ghost use Rattle.creation.specs.Quiet.{AnyHow};
-ghost use Rattle.standing.specs.Standing.{AreVolumes, IsSite, Stands, at_rest, creation_at};
+ghost use Rattle.standing.specs.Standing.{AreVolumes, IsSite, IsNew};
 
 use crate::pages::root_block;
 use arrayvec::ArrayVec;
@@ -108,13 +108,8 @@ pub(crate) fn open_restart_record<H: Host>(
         → IsSite (record { birth = birth; volumes = volumes.now.items; log_pages = log_pages })
         → Each (H.disk host.old) (IsLogged
         (record { birth = birth; volumes = volumes.now.items; log_pages = log_pages }))
-        → Each (H.disk host.new) (λ image. Stands image
-        (at_rest (creation_at (record {
-          birth = birth;
-          volumes = volumes.now.items;
-          log_pages =
-              log_pages;
-        })) []))) }
+        → Each (H.disk host.new) (IsNew
+        (record { birth = birth; volumes = volumes.now.items; log_pages = log_pages }))) }
     ensures goes { H.tells → Goes (H.disk host.old) (H.disk host.new) AnyHow }
     ensures cause { HasCause (H.faults host.old) (H.faults host.new) result }
     ensures say_faults { H.say_faults host.new ≡ H.say_faults host.old }

@@ -1,22 +1,16 @@
-pub mod Redoing
-pub mod Doing
-pub mod Lines
-pub mod Images
-pub mod Keys
-pub mod Moving
-pub mod Counting
-pub mod WholeLog
-pub mod Restarting
+mod Telling
+pub mod Untied
+pub mod Fitting
+mod Closed
+mod Restarting
 pub mod Volumes
 pub mod Results
 pub mod Numbers
-pub mod Opened
-pub mod Kernels
-pub mod NextRows
 mod Starts
 pub mod Reaching
-pub mod Serving
-pub mod Staying
-pub mod Untied
-pub mod Fitting
-pub mod Asking
+mod OpenLines
+mod OffLines
+mod NextRows
+mod WholeRecords
+mod FoundRecords
+mod Opens

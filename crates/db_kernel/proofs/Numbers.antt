@@ -1,5 +1,6 @@
 -- Records without a number past the end.
 --     low_start      so the log that they name begins low
+--     low_numbers      and so do the savepoints and the slots
 use Rattle.std.proofs.Common.{◌≡◌, refl, ℕ, ◌^◌, ◌<◌, ◌≤◌, Bool, true, false, ◌||◌, cond, List, [], ◌∷◌}
 use Rattle.std.specs.Prelude.{nat_le}
 use Rattle.std.proofs.lemmas.Bool.{leb-false}
@@ -45,3 +46,12 @@ low_start restart info pages is =
       birth = r2.0;
       generation = r3.0;
     }
+
+pub low_numbers : (restart : RestartRecord) (info : LogInfo) → is_past_end restart info ≡ false → (restart.savepoint < 2 ^ 61) × (restart.slot < 2 ^ 61)
+low_numbers restart info is =
+    let parts = neither (is_past (restart_numbers restart)) (has_past_snapshot restart.snapshots.items || is_past (info_numbers info)) is in
+    let r1 = first_low restart.slot (restart.name.birth ∷ restart.name.generation ∷ restart.savepoint ∷ restart.commit ∷ restart.position ∷ restart.base ∷ restart.pending_savepoint ∷ []) parts.0 in
+    let r2 = first_low restart.name.birth (restart.name.generation ∷ restart.savepoint ∷ restart.commit ∷ restart.position ∷ restart.base ∷ restart.pending_savepoint ∷ []) r1.1 in
+    let r3 = first_low restart.name.generation (restart.savepoint ∷ restart.commit ∷ restart.position ∷ restart.base ∷ restart.pending_savepoint ∷ []) r2.1 in
+    let r4 = first_low restart.savepoint (restart.commit ∷ restart.position ∷ restart.base ∷ restart.pending_savepoint ∷ []) r3.1 in
+    (r4.0, r1.0)

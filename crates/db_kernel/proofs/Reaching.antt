@@ -8,7 +8,8 @@ use Rattle.gate_slots.proofs.Kept.{force_device}
 use Rattle.creation.specs.Devices.{device_count, SyncedUpTo}
 use Rattle.standing.specs.Standing.{data_slots, log_slots}
 use Rattle.db_kernel.specs.declared.opening.Found.{Found}
-use Rattle.db_kernel.specs.Damages.{IsPastEnd, IsInReach, EachLeft, past_end_in, are_past_end}
+use Rattle.db_kernel.specs.Damages.{IsPastEnd, IsInReach, past_end_in, are_past_end}
+use Rattle.open_database.specs.Stretch.{EachLeft}
 use Rattle.db_kernel.specs.Reading.{FindsRecords}
 
 module _ (d0 d1 : Disk) (seen : Agree d0.seen d1.seen) (synced : SyncedUpTo device_count d1) where

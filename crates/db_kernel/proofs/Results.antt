@@ -1,9 +1,9 @@
 -- What holds of a result.
---     ok_map, ok_all      where it is Ok, by a step from what held, or of each value
+--     ok_map, ok_all, on_any      where it is Ok, by a step from what held, or of each value
 --     if_passed, err_passed      where it is the error of an earlier result, passed on by `?`
 --     unmapped_ok, unmapped_err      of one whose fault was made another one
 use Rattle.std.proofs.Common.{Result, Ok, Err, ◌≡◌, ◌∙◌, refl, sym, subst}
-use Rattle.std.specs.Prelude.{IfOk, IfErr, IsErrAnd, MatchResult}
+use Rattle.std.specs.Prelude.{IfOk, IfErr, OnOk, IsErrAnd, MatchResult}
 
 pub ok_map : {T E : Type 0} (result : Result T E) (P Q : T → Type 0) → ((value : T) → P value → Q value) → IfOk result P → IfOk result Q
 ok_map (Ok value) P Q step is = step value is
@@ -39,3 +39,8 @@ unmapped_err (Ok value) mapped P cases fault is = absurd (never (sym cases ∙ i
     never : {T D : Type 0} {v : T} {f : D} → ◌≡◌ {A = Result T D} (Ok v) (Err f) → ⊥
     never both = cc
 unmapped_err (Err first) mapped P cases fault is = (first, refl, subst (λ r. IsErrAnd r (P first)) is cases)
+
+-- what holds anyhow
+pub on_any : {T E : Type 0} (result : Result T E) (Q : Type 0) → Q → OnOk result Q
+on_any (Ok value) Q holds = holds
+on_any (Err fault) Q holds = tt

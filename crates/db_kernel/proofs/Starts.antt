@@ -1,29 +1,27 @@
--- A database at rest, without media, is sound, and agrees with the history that it has itself.
+-- A database that is off, without media, is sound, and agrees with the history that it has itself.
 --     is_sound, agrees      the two
 --     starts      so a call may start where each image stands for one
-use Rattle.std.proofs.Common.{◌≡◌, refl, sym, ap, subst, ◌∙◌, ℕ, zero, suc, Bool, true, false, cond, List, [], ◌∷◌, length, map, Option, Some, None, arith}
+use Rattle.std.proofs.Common.{◌≡◌, refl, sym, ap, subst, ◌∙◌, ℕ, ◌≤◌, zero, suc, Bool, true, false, cond, List, [], ◌∷◌, length, map, Option, Some, None, arith}
 use Rattle.std.specs.Prelude.{All, Contains, filter_map, unwrap_or}
 use Rattle.std.specs.Ordering.{nat_cmp, eq_by_cmp, ordering_then, is_eq}
 use Rattle.std.specs.declared.cmp.Ordering.{Ordering}
 use Rattle.std.specs.declared.cmp.Ordering.TheVariants.{Less, Equal, Greater}
 use Rattle.std.specs.Cmp.{then_total, on_total, nat_cmp_total, IsTotalOrder, tied_itself}
 use Rattle.std.proofs.lemmas.Map.Lookups.{exact_unsigned}
-use Rattle.std.specs.FinMap.{get, insert, empty, get-empty, get-insert}
-use Rattle.mdb_model.specs.declared.change.Commit.{Commit}
+use Rattle.std.specs.FinMap.{FinMap, get, insert, empty, values, get-empty, get-insert}
 use Rattle.mdb_model.specs.declared.name.Name.{Name}
 use Rattle.mdb_model.specs.declared.name.State.TheVariants.{Offline}
 use Rattle.mdb_model.specs.Agreement.{IsSound, Ages, Agrees, IsPageChain, name_cmp}
 use Rattle.mdb_model.specs.Headline.{CanStart}
 use Rattle.mdb_model.specs.Images.{Image}
 use Rattle.mdb_model.specs.Backups.{Backup, Medium}
-use Rattle.mdb_model.specs.History.{History}
+use Rattle.mdb_model.specs.History.{History, last}
 use Rattle.mdb_model.specs.Pages.{PageReading}
 use Rattle.mdb_model.specs.Steps.{backups_of}
-use Rattle.mdb_model.specs.Worlds.{World, Lock, Transaction, transaction, no_transaction}
+use Rattle.mdb_model.specs.Worlds.{World, Lock, Transaction, transaction, no_transaction, off}
 use Rattle.mdb_model.proofs.Computing.{entries-empty}
-use Rattle.standing.specs.Standing.{Creation, at_rest, creation_at}
 use Rattle.db_kernel.specs.Starting.{own_age}
-use Rattle.db_kernel.specs.Outside.{page_reading, StandsFor}
+use Rattle.open_database.specs.Outside.{page_reading, StandsFor}
 
 -- Names are in a total order.
 names_total : IsTotalOrder name_cmp
@@ -52,23 +50,20 @@ only_name name h other q found = by_test (eq_by_cmp name_cmp q name) (sym (get-i
   by_test true there = refl
   by_test false there = let none : ◌≡◌ {A = Option History} None (Some other) = sym (get-empty name_cmp q) ∙ there in cc
 
-module _ (reading : PageReading) (made : Creation) (commits : List Commit) where
-  abbrev world : World
-  world = at_rest made commits
+module _ (reading : PageReading) (w : World) (bare : w.media ≡ empty) (from : w.history.first ≤ w.saved) (to : w.saved ≤ last w.history) where
+  no_media : backups_of (off w) ≡ []
+  no_media = ap (λ (media : FinMap nat_cmp Medium). filter_map (λ m. m.holds) (values media)) bare ∙ ap (λ es. filter_map (λ m. m.holds) (map (λ e. e.1) es)) (entries-empty {X = Medium} nat_cmp)
 
-  no_media : backups_of world ≡ []
-  no_media = ap (λ es. filter_map (λ m. m.holds) (map (λ e. e.1) es)) (entries-empty {X = Medium} nat_cmp)
-
-  no_transactions : (session : ℕ) → transaction world session ≡ no_transaction
+  no_transactions : (session : ℕ) → transaction (off w) session ≡ no_transaction
   no_transactions session = ap (λ o. unwrap_or o no_transaction) (get-empty nat_cmp session)
 
-  no_locks : (session : ℕ) (a : Lock) → Contains (transaction world session).locks a → ⊥
-  no_locks session a = none_in (transaction world session).locks (ap (λ (x : Transaction). x.locks) (no_transactions session))
+  no_locks : (session : ℕ) (a : Lock) → Contains (transaction (off w) session).locks a → ⊥
+  no_locks session a = none_in (transaction (off w) session).locks (ap (λ (x : Transaction). x.locks) (no_transactions session))
 
-  pub is_sound : IsSound reading world
+  pub is_sound : IsSound reading (off w)
   is_sound = record {
-    saved_from = omega arith;
-    saved_to = omega arith;
+    saved_from = from;
+    saved_to = to;
     locks = λ s t a b differ has other. absurd (no_locks s a has);
     at_rest = λ state. (refl, refl, refl);
     in_order = λ state. absurd (state refl);
@@ -76,33 +71,32 @@ module _ (reading : PageReading) (made : Creation) (commits : List Commit) where
   }
 
   -- no page backups, so no chain
-  no_chain : (links : List Backup) (end : Backup) → IsPageChain reading world links end → ⊥
+  no_chain : (links : List Backup) (end : Backup) → IsPageChain reading (off w) links end → ⊥
   no_chain [] end chain = let none : ◌≡◌ {A = Option Backup} None (Some end) = chain.ends in cc
-  no_chain (link ∷ links) end chain = none_in (backups_of world) no_media (chain.on_media 0 link (omega arith))
+  no_chain (link ∷ links) end chain = none_in (backups_of (off w)) no_media (chain.on_media 0 link (omega arith))
 
-  pub agrees : Agrees reading world (own_age world)
+  pub agrees : Agrees reading (off w) (own_age (off w))
   agrees = record {
-    own = get-insert names_total empty world.name world.history world.name
-        ∙ ap (λ b. cond b (Some world.history) (get (empty {X = History} {R = name_cmp}) world.name)) (ap is_eq (tied_itself names_total world.name));
+    own = get-insert names_total empty w.name w.history w.name
+        ∙ ap (λ b. cond b (Some w.history) (get (empty {X = History} {R = name_cmp}) w.name)) (ap is_eq (tied_itself names_total w.name));
     no_later_medium = λ k d less. absurd (omega (arith, less, ap length no_media));
     no_later_age = λ generation h found.
-        let tied = second_tied (nat_cmp world.name.birth world.name.birth) (nat_cmp generation world.name.generation)
-        (only_name world.name world.history h record { birth = world.name.birth; generation = generation } found) in
-        let same : generation ≡ world.name.generation = exact_unsigned generation world.name.generation tied in
+        let tied = second_tied (nat_cmp w.name.birth w.name.birth) (nat_cmp generation w.name.generation)
+        (only_name w.name w.history h record { birth = w.name.birth; generation = generation } found) in
+        let same : generation ≡ w.name.generation = exact_unsigned generation w.name.generation tied in
         omega (arith, same);
     page_chains = λ links end chain. absurd (no_chain links end chain);
-    logs = λ name from to commits blocks has. absurd (none_in (backups_of world) no_media has);
+    logs = λ name from to commits blocks has. absurd (none_in (backups_of (off w)) no_media has);
     base = λ links end chain. absurd (no_chain links end chain);
   }
 
--- a call may start on images that stand for one world
-pub starts : (said : ℕ → List ℕ) (may_leave : ℕ → Image → Type 0) (now : ℕ)
-    → (seen : Image) → may_leave now seen → (w : World) → ((image : Image) → may_leave now image → StandsFor image w)
+-- a call may start on images that stand for one world that is off
+pub starts : (said : ℕ → List ℕ) (may_leave : ℕ → Image → Type 0) (now : ℕ) (w : World) → off w ≡ w → w.media ≡ empty → w.history.first ≤ w.saved → w.saved ≤ last w.history
+    → ((image : Image) → may_leave now image → StandsFor image w)
     → CanStart page_reading said may_leave StandsFor now ((w, own_age w) ∷ [])
-starts said may_leave now seen left w stand =
-    let s = stand seen left in
+starts said may_leave now w rest bare from to stand =
     let Fits : World → Type 0 = λ w. IsSound page_reading w × (w.state ≡ Offline) × Agrees page_reading w (own_age w) in
-    let fits : Fits w = subst Fits (sym s.is) (is_sound page_reading (creation_at s.site) w.history.commits, refl, agrees page_reading (creation_at s.site) w.history.commits) in
+    let fits : Fits w = subst Fits rest (is_sound page_reading w bare from to, refl, agrees page_reading w bare from to) in
     record {
       worlds = all_one (λ (e : World × Ages). IsSound page_reading e.0 × (e.0.state ≡ Offline) × Agrees page_reading e.0 e.1) (w, own_age w) fits;
       images = λ image may. ((w, own_age w), (0, omega arith, refl), stand image may);

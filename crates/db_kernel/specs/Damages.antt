@@ -1,14 +1,13 @@
 -- Why an opening may be refused.
 --     whole_damage      a device breaks a rule as a whole
 --     log_start_of      where the log begins, by the records in force
---     IsDamaged      the bytes of an image break this rule
+--     IsDamagedInFront      the devices as a whole, or the records, break this rule
 --     IsRestoring, IsPastEnd      the record says that a restore is open; a number is past the end
 --         of all numbers
 --     past_end_in, IsInReach      the same as a test of a line and an image; neither is so
 --     RefusesInFront, Refuses      the image has what reading its records, and an opening, is
 --         refused for
---     RefusalReports, IsInside      a refusal that tells of the devices has it; a reply that tells
---         nothing of the outside
+--     RefusalReports, RepliesDamage      a refusal, and a reply, that tells of the devices has it
 use Rattle.std.specs.Prelude.{◌≡◌, ◌≢◌, ◌⊎◌, ℕ, ◌+◌, ◌^◌, ◌<◌, nat_lt, nat_le, if◌then◌else◌, List, [], ◌∷◌, length, get_or, sum, take, Bool, false, ◌||◌, IsTrue, Option, Some, None, Err}
 use Rattle.std.specs.List.{list_any}
 use Rattle.mdb_model.specs.declared.fault.Damage.{Damage}
@@ -24,7 +23,7 @@ use Rattle.mdb_model.specs.declared.script.Reply.TheVariants.{Refused}
 use Rattle.mdb_model.specs.declared.script.Command.{Command}
 use Rattle.mdb_model.specs.declared.script.Command.TheVariants.{DbAdmin, DbOnline}
 use Rattle.mdb_model.specs.Images.{Image}
-use Rattle.mdb_host.specs.Disk.{Disk, page_count}
+use Rattle.mdb_host.specs.Disk.{page_count}
 use Rattle.mdb_bytes.specs.declared.log_info.LogInfo.{LogInfo}
 use Rattle.mdb_bytes.specs.declared.restart_record.AreaState.TheVariants.{Normal, RestoreOpen}
 use Rattle.mdb_bytes.specs.declared.restart_record.RestartRecord.{RestartRecord}
@@ -112,23 +111,12 @@ HasNoSlot image damage =
     ((in_force image data_slots ≡ None) × (damage ≡ whole_damage (Data 1) NoSlot))
     ⊎ ((in_force image log_slots ≡ None) × (damage ≡ whole_damage Log NoSlot))
 
--- an open gate stands before bytes that are not the group that is due, or both ways to the end of
--- the log part
-abbrev pub HasBrokenLog : Image → Damage → Type 0
-HasBrokenLog image damage =
-    (restart : RestartRecord) × HasRestart image restart × ((info : LogInfo) × HasLogInfo image info
-    × OpenFinds (log_start_of restart info) (ring_byte (ring_size info.pages) image)
-    (Err (Damaged damage)))
-
--- damage that shows before the log is read
+-- damage that shows before pages and the log are read
 abbrev pub IsDamagedInFront : Image → Damage → Type 0
 IsDamagedInFront image damage =
     IsMissing image damage ⊎ (IsLogOutOfSize image damage
     ⊎ (IsFirstOutOfSize image damage
     ⊎ (IsVolumeOutOfSize image damage ⊎ HasNoSlot image damage)))
-
-abbrev pub IsDamaged : Image → Damage → Type 0
-IsDamaged image damage = IsDamagedInFront image damage ⊎ HasBrokenLog image damage
 
 -- Other causes
 
@@ -185,10 +173,6 @@ pub record IsInReach (image : Image) : Type 0 where
   pub normal : restart.state ≡ Normal
   pub low : is_past_end restart info ≡ false
 
--- each image that a crash now may leave has P
-abbrev pub EachLeft : Disk → (Image → Type 0) → Type 0
-EachLeft disk P = (image : Image) → disk.may_leave disk.now image → P image
-
 -- the lines that open a database
 abbrev pub IsOpener : Command → Type 0
 IsOpener DbAdmin = Unit {0}
@@ -203,10 +187,11 @@ RefusesInFront image NumberEnd = IsPastEnd image
 RefusesInFront image DeviceFailed = Unit {0}
 RefusesInFront image _ = ⊥
 
--- the image has what an opening is refused for; a failed device and want of memory are not seen in
--- it
+-- The image has what an opening is refused for; a failed device and want of memory are not seen in
+-- it. Other damage than that of the records, of pages and of the log, comes only where the records
+-- are in order.
 abbrev pub Refuses : Image → Refusal → Type 0
-Refuses image (ToldDamaged damage) = IsDamaged image damage
+Refuses image (ToldDamaged damage) = IsDamagedInFront image damage ⊎ IsInReach image
 Refuses image ToldRestoreOpen = IsRestoring image
 Refuses image NumberEnd = IsPastEnd image
 Refuses image DeviceFailed = Unit {0}
@@ -215,18 +200,10 @@ Refuses image _ = ⊥
 
 -- a refusal that tells of the devices has it in the image
 abbrev pub RefusalReports : Image → Refusal → Type 0
-RefusalReports image (ToldDamaged damage) = IsDamaged image damage
+RefusalReports image (ToldDamaged damage) = IsDamagedInFront image damage ⊎ IsInReach image
 RefusalReports image ToldRestoreOpen = IsRestoring image
 RefusalReports image NumberEnd = IsPastEnd image
 RefusalReports image _ = Unit {0}
-
--- a reply that tells nothing of the devices
-abbrev pub IsInside : Reply → Type 0
-IsInside (Refused DeviceFailed) = ⊥
-IsInside (Refused ToldRestoreOpen) = ⊥
-IsInside (Refused NumberEnd) = ⊥
-IsInside (Refused (ToldDamaged damage)) = ⊥
-IsInside _ = Unit {0}
 
 -- a reply that tells of the devices has it in the image
 abbrev pub RepliesDamage : Image → Reply → Type 0

@@ -1,15 +1,7 @@
-pub mod Outside
-pub mod Rows
-pub mod Redo
-pub mod Stretch
-pub mod Working
-pub mod Sessions
 pub mod Kept
-pub mod Committing
 pub mod Damages
 pub mod Reading
-pub mod Access
+pub mod Opening
 pub mod Starting
-pub mod Refusing
 pub mod Taking
 pub mod Scanning

@@ -41,6 +41,7 @@ pub record FindsRecords (found : Found) (image : Image) : Type 0 where
   pub has_restart : HasRestart image restart
   pub info : LogInfo
   pub has_info : HasLogInfo image info
+  pub is : found.in_force.record ≡ restart
   pub start : found.start ≡ log_start_of restart info
   pub blocks : found.blocks ≡ sum restart.volumes.items
   -- no restore is open, and no number is past the end

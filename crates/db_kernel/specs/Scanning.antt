@@ -14,9 +14,9 @@ use Rattle.mdb_model.specs.Causes.{Rose}
 use Rattle.mdb_model.specs.Images.{Image}
 use Rattle.mdb_model.specs.Worlds.{World}
 use Rattle.mdb_host.specs.Disk.{Disk, Keeps}
-use Rattle.db_kernel.specs.declared.database.Database.{Database}
+use Rattle.open_database.specs.declared.database.Database.{Database}
+use Rattle.open_database.specs.Stretch.{StandsForOneOf}
 use Rattle.db_kernel.specs.Kept.{IsSoundKernel, greatest_in, FitsWorlds, NextIs, scanned_rows}
-use Rattle.db_kernel.specs.Working.{StandsForOneOf}
 
 -- a device failed in a call since, or bytes broke a rule; the kernel is off then
 abbrev pub FaultHasCause : (failed failed_after : ℕ) → (after : Option Database) → Next → Type 0
@@ -30,9 +30,8 @@ FaultHasCause failed failed_after after _ = Unit {0}
 -- disk holds where the host tells what it holds.
 pub record TakesRow (tells : Type 0) (old new : Disk) (failed failed_after : ℕ)
     (before after : Option Database) (next : Next) : Type 0 where
-  -- an open database stays in order
+  -- an open database is in order, and its numbers do not grow
   pub sound : IsSoundKernel tells after new
-  -- its numbers do not grow
   pub numbers : greatest_in after ≤ greatest_in before
   -- what was known of the moments before stays known
   pub keeps : tells → Keeps old new
@@ -54,7 +53,7 @@ pub record ReadsRow (old new : Disk) (ws : List World) (before after : Option Da
   pub stand : (t : ℕ) (image : Image) → old.now ≤ t → t ≤ new.now → new.may_leave t image
       → StandsForOneOf ws image
   -- the row that comes next, or the end; or a device failed
-  pub is_next : NextIs before session table from key value next
+  pub is_next : NextIs before old session table from key value next
   -- after a row and the end it fits them still, and the session sees the same rows
   pub fit : IsGiven next → FitsWorlds after new ws
-  pub same : IsGiven next → scanned_rows after session ≡ scanned_rows before session
+  pub same : IsGiven next → scanned_rows after new session ≡ scanned_rows before old session

@@ -1,19 +1,20 @@
 //! What is so of a kernel and its worlds, for callers that do not look into what it is to fit
-//! them, or to be in order. The functions do nothing: their contracts are the laws.
-ghost use Rattle.std.specs.Prelude.{◌≡◌, List, All, None};
-ghost use Rattle.mdb_model.specs.declared.name.State.TheVariants.{Offline};
+//! them. The functions do nothing: their contracts are the laws.
+ghost use Rattle.std.specs.Prelude.{◌≡◌, List, All, None, Some};
+ghost use Rattle.mdb_model.specs.Runs.{Line};
+ghost use Rattle.mdb_model.specs.Worlds.{World};
 ghost use Rattle.mdb_model.specs.declared.name.Session.{Session};
+ghost use Rattle.mdb_model.specs.declared.name.State.TheVariants.{Offline};
 ghost use Rattle.mdb_model.specs.declared.name.Table.{Table};
 ghost use Rattle.mdb_model.specs.declared.script.Command.TheVariants.{ScanTable};
 ghost use Rattle.mdb_model.specs.declared.script.Refusal.TheVariants.{Syntax, MemoryWanting};
 ghost use Rattle.mdb_model.specs.declared.script.Reply.{Reply};
 ghost use Rattle.mdb_model.specs.declared.script.Reply.TheVariants.{Refused};
-ghost use Rattle.mdb_model.specs.Runs.{Line};
-ghost use Rattle.mdb_model.specs.Worlds.{World};
 ghost use Rattle.mdb_host.specs.Disk.{Disk};
-ghost use Rattle.db_kernel.specs.Kept.{AreOff, FitsWorlds, IsSoundKernel};
-ghost use Rattle.db_kernel.specs.Outside.{TiesNothing};
-ghost use Rattle.db_kernel.specs.Stretch.{IsStill};
+ghost use Rattle.open_database.specs.Outside.{TiesNothing};
+ghost use Rattle.open_database.specs.Serving.{AreOff};
+ghost use Rattle.open_database.specs.Stretch.{IsStill};
+ghost use Rattle.db_kernel.specs.Kept.{IsSoundKernel, FitsWorlds, scanned_rows};
 
 use crate::kernel::Kernel;
 use mdb_host::Host;
@@ -30,11 +31,10 @@ pub fn saying_keeps_the_fit<H: Host>(kernel: &Kernel, before: &H, after: &H)
     let _after = after;
 }
 
-/// Saying a text leaves an open database in order, too. A host that does not tell what it holds
-/// says nothing of its devices.
+/// And its database stays in order.
 pub fn saying_keeps_it_sound<H: Host>(kernel: &Kernel, before: &H, after: &H)
     ensures { IsSoundKernel H.tells kernel.now.database (H.disk before.now)
-        → (H.tells → IsStill (H.disk before.now) (H.disk after.now))
+        → IsStill (H.disk before.now) (H.disk after.now)
         → IsSoundKernel H.tells kernel.now.database (H.disk after.now) }
 {
     let _kernel = kernel;
@@ -42,7 +42,18 @@ pub fn saying_keeps_it_sound<H: Host>(kernel: &Kernel, before: &H, after: &H)
     let _after = after;
 }
 
-/// A kernel that is off is in order, whatever the devices hold.
+/// And the rows that a session sees are the same.
+pub fn saying_keeps_the_rows<H: Host>(kernel: &Kernel, before: &H, after: &H)
+    ensures { (session : Session) → IsStill (H.disk before.now) (H.disk after.now)
+        → scanned_rows kernel.now.database (H.disk after.now) session
+        ≡ scanned_rows kernel.now.database (H.disk before.now) session }
+{
+    let _kernel = kernel;
+    let _before = before;
+    let _after = after;
+}
+
+/// A kernel that is off is in order.
 pub fn a_kernel_that_is_off_is_sound<H: Host>(host: &H)
     ensures { IsSoundKernel H.tells None (H.disk host.now) }
 {

@@ -3,8 +3,11 @@ ghost use Rattle.std.specs.Prelude.{◌≡◌, ℕ, ◌+◌, ◌*◌, ◌^◌, �
 ghost use Rattle.mdb_model.specs.Causes.{Rose};
 ghost use Rattle.mdb_model.specs.declared.fault.Device.TheVariants.{Data, Log};
 ghost use Rattle.mdb_model.specs.Images.{Image, size_of};
-ghost use Rattle.mdb_host.specs.Disk.{Disk, Goes, Agree};
+ghost use Rattle.mdb_host.specs.Disk.{Disk, Goes, Agree, Synced};
 ghost use Rattle.mdb_bytes.specs.Parts.{KeepsLimits};
+ghost use Rattle.gate_slots.specs.declared.body.SlotBody.TheVariants.{Restart};
+ghost use Rattle.gate_slots.specs.Slots.{HasBody, IsReady};
+ghost use Rattle.savepoint.specs.Stands.{restart_place};
 ghost use Rattle.mdb_bytes.specs.SlotRecords.{restart_format, log_info_format};
 ghost use Rattle.db_kernel.specs.Damages.{whole_damage, HasRestart, HasLogInfo, RefusesInFront, log_start_of, restart_numbers, info_numbers, is_past, has_past_snapshot, is_past_end};
 ghost use Rattle.db_kernel.specs.Reading.{VolumeFits, IsAreaSize, IsLowStart};
@@ -16,6 +19,7 @@ use mdb_host::{Device, Host};
 use mdb_model::fault::{Damage, Rule};
 use mdb_model::limits::{MOST_BLOCKS, RECORD_NUMBER_END};
 use mdb_model::script::Refusal;
+use page_store::RecordInForce;
 use redo_ring::LogStart;
 
 // The slots of the restart record.
@@ -41,10 +45,16 @@ pub(crate) fn damaged(device: Device, rule: Rule) -> Refusal
     })
 }
 
-/// The restart record in force.
-pub(crate) fn read_restart_record<H: Host>(host: &mut H) -> Result<RestartRecord, Refusal>
-    ensures force { IfOk result (λ restart. H.tells → HasRestart (H.disk host.old).seen restart) }
-    ensures keeps { IfOk result (λ restart. KeepsLimits restart_format restart) }
+/// The restart record in force, and the slots that hold it.
+pub(crate) fn read_restart_record<H: Host>(host: &mut H) -> Result<RecordInForce, Refusal>
+    ensures force { IfOk result (λ found. H.tells
+        → HasRestart (H.disk host.old).seen found.record) }
+    ensures keeps { IfOk result (λ found. KeepsLimits restart_format found.record) }
+    ensures body { IfOk result (λ found. HasBody restart_place found.slots
+        (Restart found.record)) }
+    ensures ready { IfOk result (λ found. H.tells → Synced (H.disk host.old) (Data 1)
+        → (image : Image) → (H.disk host.new).may_leave (H.disk host.new).now image
+        → IsReady found.slots (Restart found.record) image) }
     ensures refuses { H.tells → IfErr result (RefusesInFront (H.disk host.old).seen) }
     ensures calm { H.tells → Goes (H.disk host.old) (H.disk host.new) Agree }
     ensures seen { H.tells → Agree (H.disk host.old).seen (H.disk host.new).seen }
@@ -60,7 +70,7 @@ pub(crate) fn read_restart_record<H: Host>(host: &mut H) -> Result<RestartRecord
         return Err(damaged(Device::Data(1), Rule::Size));
     }
     match Slots::read(host, DATA_SLOTS) {
-        Ok((_, SlotBody::Restart(restart))) => Ok(restart),
+        Ok((slots, SlotBody::Restart(record))) => Ok(RecordInForce { slots, record }),
         Ok((_, SlotBody::Log(_))) => unreachable!(),
         Err(SlotFault::Failed) => Err(Refusal::DeviceFailed),
         Err(SlotFault::NoSlot) => Err(damaged(Device::Data(1), Rule::NoSlot)),
@@ -78,6 +88,7 @@ fn check_volume<H: Host>(
     requires inside { volume < length restart.now.volumes.items }
     requires before { before ≡ sum (take volume restart.now.volumes.items) }
     requires small { before ≤ 65536 }
+    ensures least { IfOk result (λ blocks. 64 ≤ get_or restart.now.volumes.items volume 0) }
     ensures blocks { IfOk result (λ blocks. (blocks
         ≡ sum (take (volume + 1) restart.now.volumes.items)) × (blocks ≤ 65536)) }
     ensures fits { IfOk result (λ blocks. H.tells
@@ -101,6 +112,8 @@ fn check_volume<H: Host>(
 pub(crate) fn check_volumes<H: Host>(host: &H, restart: &RestartRecord) -> Result<u32, Refusal>
     requires keeps { KeepsLimits restart_format restart.now }
     ensures blocks { IfOk result (λ blocks. IsAreaSize restart.now blocks) }
+    ensures least { IfOk result (λ blocks. (volume : ℕ) → volume < length restart.now.volumes.items
+        → 64 ≤ get_or restart.now.volumes.items volume 0) }
     ensures fits { IfOk result (λ blocks. H.tells → (volume : ℕ)
         → volume < length restart.now.volumes.items
         → VolumeFits restart.now volume (H.disk host.now).seen) }
@@ -236,6 +249,8 @@ pub(crate) fn log_start(restart: &RestartRecord, info: &LogInfo) -> Result<LogSt
     requires pages { (4 ≤ info.now.pages) × (info.now.pages ≤ 65536) }
     ensures start { IfOk result (λ start. start ≡ log_start_of restart.now info.now) }
     ensures low { IfOk result IsLowStart }
+    ensures numbers { IfOk result (λ start. (restart.now.savepoint < 2 ^ 61)
+        × (restart.now.slot < 2 ^ 61)) }
     ensures normal { IfOk result (λ start. (restart.now.state ≡ AreaState.Normal)
         × (is_past_end restart.now info.now ≡ false)) }
     ensures refuses { (image : Image) → HasRestart image restart.now → HasLogInfo image info.now

@@ -1,8 +1,8 @@
 -- What an area that serves a world says of it.
---     ring_served, blocks_served, name_served      its size and its name
+--     ring_served, blocks_served, small_served, name_served      its size and its name
 --     last_served, saved_served, unsaved_served      the numbers of its log
 --     fresh_rows      right after a savepoint the pages of the record are its rows
-use Rattle.std.proofs.Common.{◌≡◌, refl, sym, ap, subst, ◌∙◌, ℕ, ◌-◌, List, [], ◌∷◌, length, Option, Some, None, sum, arith}
+use Rattle.std.proofs.Common.{◌≡◌, refl, sym, ap, subst, ◌∙◌, ℕ, ◌-◌, ◌≤◌, List, [], ◌∷◌, length, Option, Some, None, sum, arith}
 use Rattle.std.specs.Prelude.{option_map, unwrap_or}
 use Rattle.std.specs.FinMap.{empty}
 use Rattle.std.proofs.lemmas.Option.{same_Some}
@@ -60,6 +60,9 @@ module _ (tells : Type 0) (slots : Slots) (r : RestartRecord) (s : Store) (ring 
 
     pub blocks_served : w.blocks ≡ block_count s
     blocks_served = here.sizes.blocks ∙ ap (λ (r : RestartRecord). sum r.volumes.items) same_record ∙ sym serves.service.blocks
+
+    pub small_served : w.blocks ≤ 65536
+    small_served = omega (arith, here.sizes.blocks, here.sizes.limits.most)
 
     pub name_served : w.name ≡ ring.name
     name_served = sym here.name ∙ ap (λ (r : RestartRecord). r.name) same_record ∙ sym serves.name

@@ -70,6 +70,8 @@ pub fn what_is_served<H: Host>()
     ensures blocks { (slots : Slots) (r : RestartRecord) (s : Store) (ring : Ring) (d : H)
         (w : World) → ServesWorld H.tells slots r s ring (H.disk d) w
         → w.blocks ≡ block_count s }
+    ensures small { (slots : Slots) (r : RestartRecord) (s : Store) (ring : Ring) (d : H)
+        (w : World) → ServesWorld H.tells slots r s ring (H.disk d) w → w.blocks ≤ 65536 }
     ensures name { (slots : Slots) (r : RestartRecord) (s : Store) (ring : Ring) (d : H)
         (w : World) → ServesWorld H.tells slots r s ring (H.disk d) w → w.name ≡ ring.name }
     ensures last_commit { (slots : Slots) (r : RestartRecord) (s : Store) (ring : Ring) (d : H)

@@ -77,7 +77,7 @@ module _ (reading : PageReading) (facts : Facts) (in_reach : facts.record_past_e
   put_is_free = simp maps refl
 
   put_is_admitted : refusal reading opened facts (PutRow one table k v) ≡ None
-  put_is_admitted i = first_cause (put_is_free i ∷ put_is_small i ∷ None ∷ None ∷ [])
+  put_is_admitted i = first_cause (put_is_free i ∷ put_is_small i ∷ put_fits i ∷ None ∷ [])
 
   commit_is_admitted : refusal reading with_put facts (CommitWork one) ≡ None
   commit_is_admitted = simp maps refl

@@ -1,8 +1,8 @@
 -- The lines of an open database that call no device and leave its rows alone.
 --     killed_line      it is given up
 --     state_line      its state is told
---     unbuilt_line      a line that the machine does not know
-use Rattle.std.proofs.Common.{◌≡◌, refl, sym, subst, ap, Bool, false, List, [], ◌∷◌, Some}
+--     unbuilt_line, unbuilt_does      a line that the machine does not know
+use Rattle.std.proofs.Common.{◌≡◌, refl, sym, subst, ap, Bool, false, List, [], ◌∷◌, Some, Ok}
 use Rattle.std.specs.Prelude.{if◌then◌else◌}
 use Rattle.std.proofs.lemmas.List.Elements.{All-cons, All-nil}
 use Rattle.mdb_host.specs.Disk.{Disk}
@@ -14,16 +14,18 @@ use Rattle.mdb_model.specs.Worlds.{World, off}
 use Rattle.mdb_model.specs.declared.name.State.{State}
 use Rattle.mdb_model.specs.declared.name.State.TheVariants as state
 use Rattle.mdb_model.specs.declared.script.Command.{Command}
-use Rattle.mdb_model.specs.declared.script.Command.TheVariants.{DbAdmin, DbOnline, DbOffline, DbState, Kill, MakeSavepoint, TaskBackup, BackupStart}
+use Rattle.mdb_model.specs.declared.script.Command.TheVariants.{DbAdmin, DbOnline, DbOffline, DbState, Kill, ScanTable, MakeSavepoint, TaskBackup, BackupStart}
 use Rattle.mdb_model.specs.declared.script.BackupKind.TheVariants.{OfPages, OfLog}
 use Rattle.mdb_model.specs.declared.script.Refusal.TheVariants.{Syntax}
-use Rattle.mdb_model.specs.declared.script.Reply.TheVariants.{OfflineNow, StateIs}
+use Rattle.mdb_model.specs.declared.script.Reply.TheVariants.{OfflineNow, StateIs, Refused}
 use Rattle.session_rows.proofs.Entries.{OneStep, entry_done, entry_refused}
 use Rattle.open_database.specs.declared.database.Access.{Access}
 use Rattle.open_database.specs.declared.database.Access.TheVariants.{Admin, Online}
 use Rattle.open_database.specs.Outside.{page_reading, StandsFor, Ties, TiesNothing}
-use Rattle.open_database.specs.Serving.{AreOff, open_state}
+use Rattle.open_database.specs.Serving.{AreOff, FitsOpen, open_state}
 use Rattle.open_database.specs.Stretch.{Completes}
+use Rattle.open_database.specs.Taking.{DoesLine}
+use Rattle.open_database.specs.declared.database.Database.{Database}
 use Rattle.open_database.proofs.Stretches.{completes_still}
 use Rattle.kept_worlds.specs.InService.{AllStand}
 
@@ -79,3 +81,11 @@ unbuilt_line disk w line fits not_built all fit =
     completes_still disk w w (Some line) (refused Syntax) fits all
     (entry_refused page_reading (w ∷ []) line Syntax (All-cons (λ v. refusal page_reading v no_facts line ≡ Some Syntax) w [] (unbuilt_cause w line not_built) (All-nil (λ v. refusal page_reading v no_facts line ≡ Some Syntax)))) refl
     (λ image left. unbuilt_ties line w w image) fit
+
+-- such a line as one that is done
+pub unbuilt_does : (tells : Type 0) (d : Disk) (ws : List World) (line : Command) (after : Database) → is_built line ≡ false → Completes page_reading StandsFor d d ws (Some line) (refused Syntax) (FitsOpen tells after d)
+    → DoesLine tells d d ws line after (Ok (Refused Syntax))
+unbuilt_does tells d ws (ScanTable session table) after not_built done = done
+unbuilt_does tells d ws DbOffline after not_built done = absurd cc
+unbuilt_does tells d ws Kill after not_built done = absurd cc
+unbuilt_does tells d ws line after not_built done = done

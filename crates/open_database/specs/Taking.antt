@@ -2,18 +2,21 @@
 --     closes      the lines after which no database is open
 --     seen_by      the rows that a session sees
 --     answer_by      the answer to a line, by its reply
+--     CanScan, CanAskFor      rows can be asked for one at a time; so can those of a scan
 --     FitsAfter      what a line leaves of the worlds that may be
 --     DoesLine      what a line does
 --     TakesOpen      what it keeps, whatever the devices have
 --     RefusalKeeps      after a refusal the database is as it was
-use Rattle.std.specs.Prelude.{◌≡◌, ℕ, ◌+◌, ◌^◌, ◌≤◌, List, Bool, true, false, Some, Result, Ok, Err, OnOk, IfOk}
+use Rattle.std.specs.Prelude.{◌≡◌, ℕ, ◌+◌, ◌^◌, ◌<◌, ◌≤◌, List, length, Bool, true, false, Some, Result, Ok, Err, OnOk, IfOk}
 use Rattle.mdb_model.specs.Answers.{Answer, plain, refused}
 use Rattle.mdb_model.specs.Causes.{Rose}
+use Rattle.mdb_model.specs.Steps.{rows_of}
 use Rattle.mdb_model.specs.Tables.{Tables}
 use Rattle.mdb_model.specs.Worlds.{World}
 use Rattle.mdb_model.specs.declared.fault.PageFault.{PageFault}
 use Rattle.mdb_model.specs.declared.fault.PageFault.TheVariants.{Failed, Damaged}
 use Rattle.mdb_model.specs.declared.name.Session.{Session}
+use Rattle.mdb_model.specs.declared.name.Table.{Table}
 use Rattle.mdb_model.specs.declared.script.Command.{Command}
 use Rattle.mdb_model.specs.declared.script.Command.TheVariants.{ScanTable, DbOffline, Kill}
 use Rattle.mdb_model.specs.declared.script.Refusal.TheVariants.{DeviceFailed}
@@ -21,6 +24,7 @@ use Rattle.mdb_model.specs.declared.script.Reply.{Reply}
 use Rattle.mdb_host.specs.Disk.{Disk, Keeps}
 use Rattle.session_rows.specs.Replies.{scan_answer, IsRefusal}
 use Rattle.session_rows.specs.Scan.{seen_rows}
+use Rattle.session_rows.specs.Serving.{HasKeys}
 use Rattle.store_rows.specs.StoredRows.{stored_rows}
 use Rattle.open_database.specs.declared.database.Database.{Database}
 use Rattle.open_database.specs.Outside.{page_reading, StandsFor}
@@ -45,6 +49,17 @@ abbrev pub answer_by : Command → Database → Disk → Reply → Answer
 answer_by (ScanTable session table) database d reply =
     scan_answer (seen_by database d session) table reply
 answer_by _ database d reply = plain reply
+
+-- Rows can be asked for one at a time: none of them has an empty key, at which a scan begins, and
+-- those of the table can be counted.
+pub record CanScan (rows : Tables) (table : Table) : Type 0 where
+  pub keyed : HasKeys rows
+  pub few : length (rows_of rows table.0) + 1 < 2 ^ 64
+
+-- so can the rows of a scan
+abbrev pub CanAskFor : Command → Database → Disk → Type 0
+CanAskFor (ScanTable session table) database d = CanScan (seen_by database d session) table
+CanAskFor _ database d = Unit {0}
 
 -- after a line that closes it the worlds are off, after any other the database fits them
 abbrev pub FitsAfter : (closed : Bool) → (tells : Type 0) → Database → Disk → List World → Type 0

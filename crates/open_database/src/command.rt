@@ -1,10 +1,10 @@
 //! A line of an open database, whichever it is.
-ghost use Rattle.std.specs.Prelude.{◌≡◌, ◌-◌, ◌≤◌, ◌^◌, List, IsTrue};
+ghost use Rattle.std.specs.Prelude.{◌≡◌, ◌-◌, ◌≤◌, ◌^◌, List, IsTrue, IfOk, true};
 ghost use Rattle.mdb_model.specs.Script.{is_in_range};
 ghost use Rattle.mdb_model.specs.Worlds.{World};
 ghost use Rattle.open_database.specs.Serving.{IsSoundDatabase, FitsOpen, greatest_number, open_state};
 ghost use Rattle.open_database.specs.Stage.{RowsAreOnPages};
-ghost use Rattle.open_database.specs.Taking.{DoesLine, TakesOpen};
+ghost use Rattle.open_database.specs.Taking.{closes, CanAskFor, DoesLine, TakesOpen};
 
 use crate::database::{Access, Database};
 use mdb_host::Host;
@@ -30,6 +30,10 @@ impl Database {
         ensures does { RowsAreOnPages → H.tells → (ws : List World)
             → FitsOpen H.tells self.old (H.disk host.old) ws
             → DoesLine H.tells (H.disk host.old) (H.disk host.new) ws line.now self.new result }
+        ensures closed { closes line.now ≡ true → IfOk result (λ reply. reply ≡ Reply.OfflineNow) }
+        ensures can_ask { H.tells → (ws : List World)
+            → FitsOpen H.tells self.old (H.disk host.old) ws
+            → CanAskFor line.now self.new (H.disk host.new) }
         ensures say_faults { H.say_faults host.new ≡ H.say_faults host.old }
     {
         match line {

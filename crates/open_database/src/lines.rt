@@ -11,7 +11,6 @@ ghost use Rattle.mdb_model.specs.declared.script.Command.TheVariants.{GetRow, Pu
 ghost use Rattle.mdb_host.specs.Disk.{Keeps};
 ghost use Rattle.mdb_bytes.specs.Groups.{change_fits};
 ghost use Rattle.session_rows.specs.Replies.{IsRefusal, scan_answer};
-ghost use Rattle.session_rows.specs.Serving.{HasKeys};
 ghost use Rattle.store_rows.specs.StoredRows.{HasRows};
 ghost use Rattle.open_database.specs.declared.database.Access.TheVariants.{Online};
 ghost use Rattle.open_database.specs.Outside.{page_reading, StandsFor};
@@ -21,12 +20,13 @@ ghost use Rattle.open_database.specs.Scanning.{ReadsRow};
 ghost use Rattle.open_database.specs.Serving.{IsSoundDatabase, greatest_number, FitsOpen, LineDoes};
 ghost use Rattle.open_database.specs.Stage.{RowsAreOnPages};
 ghost use Rattle.open_database.specs.Stretch.{Completes};
-ghost use Rattle.open_database.specs.Taking.{seen_by};
+ghost use Rattle.open_database.specs.Taking.{seen_by, CanScan};
 ghost use Rattle.open_database.specs.RowLines.{KeepsRows, TakesOpenLine};
 
 use crate::database::{Access, Database};
 use crate::rows::{del_line, get_line, next_line, put_line};
-use live_area::calls_keep_serving;
+use known_needs::rows_that_fit_are_few;
+use live_area::{calls_keep_serving, what_is_served};
 use mdb_host::Host;
 use mdb_model::bytes::{Key, KeyBuf, Value, ValueBuf};
 use mdb_model::fault::PageFault;
@@ -117,6 +117,7 @@ impl Database {
     /// Locks a table for a scan. Its rows are then asked for one at a time. It calls no device.
     pub fn scan<H: Host>(&mut self, host: &H, session: Session, table: Table) -> Reply
         requires session { IsTrue (is_session session.0) }
+        requires table { IsTrue (is_table table.0) }
         requires sound { IsSoundDatabase H.tells self.old (H.disk host.now) }
         ensures sound { IsSoundDatabase H.tells self.new (H.disk host.now) }
         ensures numbers { greatest_number self.new ≡ greatest_number self.old }
@@ -126,20 +127,21 @@ impl Database {
             (Some (ScanTable session table))
             (scan_answer (seen_by self.new (H.disk host.now) session) table result)
             (FitsOpen H.tells self.new (H.disk host.now)) }
-        ensures keyed { H.tells → (ws : List World)
+        ensures can_scan { H.tells → (ws : List World)
             → FitsOpen H.tells self.old (H.disk host.now) ws
-            → HasKeys (seen_by self.new (H.disk host.now) session) }
+            → CanScan (seen_by self.new (H.disk host.now) session) table }
         ensures same { HasRows H.tells self.old.area.store (H.disk host.now).seen
             → KeepsRows H.tells self.old self.new (H.disk host.now) (H.disk host.now) }
         ensures inside { IsInside result }
         ensures refused { IsRefusal result → KeepsDatabase self.old self.new }
     {
-        // Opens the invariant: each change is within its limits.
+        // Laws that the promise stands on.
+        what_is_served::<H>();
+        rows_that_fit_are_few();
+        let reply = self.begin_scan(host, session, table);
+        // Opens the invariant: each change is within its limits, and they can be counted.
         let _changed = self.transactions.changed(session);
-        match self.access {
-            Access::Admin => Reply::Refused(Refusal::WrongState(State::Admin)),
-            Access::Online => self.lock_table(host, session, table),
-        }
+        reply
     }
 
     /// Gives up the session's transaction. It calls no device.
@@ -300,10 +302,10 @@ impl Database {
     }
 
     // Locks a table for a scan.
-    fn lock_table<H: Host>(&mut self, host: &H, session: Session, table: Table) -> Reply
+    fn begin_scan<H: Host>(&mut self, host: &H, session: Session, table: Table) -> Reply
         requires session { IsTrue (is_session session.0) }
-        requires online { self.old.access ≡ Online }
         requires sound { IsSoundDatabase H.tells self.old (H.disk host.now) }
+        ensures area { self.new.area ≡ self.old.area }
         ensures sound { IsSoundDatabase H.tells self.new (H.disk host.now) }
         ensures numbers { greatest_number self.new ≡ greatest_number self.old }
         ensures does { H.tells → (ws : List World)
@@ -312,9 +314,31 @@ impl Database {
             (Some (ScanTable session table))
             (scan_answer (seen_by self.new (H.disk host.now) session) table result)
             (FitsOpen H.tells self.new (H.disk host.now)) }
-        ensures keyed { H.tells → (ws : List World)
+        ensures same { HasRows H.tells self.old.area.store (H.disk host.now).seen
+            → KeepsRows H.tells self.old self.new (H.disk host.now) (H.disk host.now) }
+        ensures inside { IsInside result }
+        ensures refused { IsRefusal result → KeepsDatabase self.old self.new }
+    {
+        match self.access {
+            Access::Admin => Reply::Refused(Refusal::WrongState(State::Admin)),
+            Access::Online => self.lock_table(host, session, table),
+        }
+    }
+
+    // Locks the table.
+    fn lock_table<H: Host>(&mut self, host: &H, session: Session, table: Table) -> Reply
+        requires session { IsTrue (is_session session.0) }
+        requires online { self.old.access ≡ Online }
+        requires sound { IsSoundDatabase H.tells self.old (H.disk host.now) }
+        ensures area { self.new.area ≡ self.old.area }
+        ensures sound { IsSoundDatabase H.tells self.new (H.disk host.now) }
+        ensures numbers { greatest_number self.new ≡ greatest_number self.old }
+        ensures does { H.tells → (ws : List World)
             → FitsOpen H.tells self.old (H.disk host.now) ws
-            → HasKeys (seen_by self.new (H.disk host.now) session) }
+            → Completes page_reading StandsFor (H.disk host.now) (H.disk host.now) ws
+            (Some (ScanTable session table))
+            (scan_answer (seen_by self.new (H.disk host.now) session) table result)
+            (FitsOpen H.tells self.new (H.disk host.now)) }
         ensures same { HasRows H.tells self.old.area.store (H.disk host.now).seen
             → KeepsRows H.tells self.old self.new (H.disk host.now) (H.disk host.now) }
         ensures inside { IsInside result }

@@ -9,10 +9,10 @@ use Rattle.mdb_model.specs.Answers.{refused}
 use Rattle.mdb_model.specs.Runs.{Step, Stepped, Starved, may_want_memory}
 use Rattle.mdb_model.specs.Worlds.{World}
 use Rattle.dbm_script.specs.Reading.{takes_bytes}
-use Rattle.db_kernel.specs.Stretch.{LeavesOnly, Completes}
+use Rattle.open_database.specs.Stretch.{LeavesOnly, Completes}
 use Rattle.db_kernel.proofs.Fitting.{stays_refused}
 use Rattle.db_kernel.proofs.Untied.{syntax_untied, starved_untied}
-use Rattle.db_kernel.specs.Outside.{page_reading, StandsFor}
+use Rattle.open_database.specs.Outside.{page_reading, StandsFor}
 
 all_syntax : (ws : List World) → AllZip (λ w w'. Step page_reading w None (refused Syntax) w') ws ws
 all_syntax [] = tt

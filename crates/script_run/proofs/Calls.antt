@@ -8,7 +8,7 @@ use Rattle.mdb_host.specs.Disk.{Disk}
 use Rattle.script_run.specs.Calls.{RunPromise}
 use Rattle.script_run.proofs.Progressing.{ends_memory}
 use Rattle.script_run.proofs.Turns.{start_serial, start_stand}
-use Rattle.db_kernel.specs.Outside.{page_reading, StandsFor}
+use Rattle.open_database.specs.Outside.{page_reading, StandsFor}
 
 -- what is so of the numbers that were read is so of those that are asked for
 pub created_with : (P : ℕ → ℕ → List ℕ → Type 0) (request : Option Request) (birth log_pages : ℕ) (volumes : List ℕ) (b l : ℕ) (v : List ℕ)

@@ -17,19 +17,22 @@ use Rattle.mdb_model.specs.Runs.{Line, TakenLine, last_worlds}
 use Rattle.mdb_model.specs.Text.{text_of}
 use Rattle.mdb_model.specs.Worlds.{World}
 use Rattle.mdb_host.specs.Disk.{Disk, Keeps}
-use Rattle.db_kernel.specs.Damages.{EachLeft, past_end_in}
-use Rattle.db_kernel.specs.Stretch.{Does}
+use Rattle.db_kernel.specs.Damages.{past_end_in}
+use Rattle.open_database.specs.Stretch.{Does}
 use Rattle.script_run.specs.Along.{instant, HasCauses}
 
 rose_since : (a b c : ℕ) → a ≤ b → Rose b c → Rose a c
 rose_since a b c le rose = omega (arith, le, rose)
 
--- what a line has of causes once it is done, and before its reply is said
-pub record LineCauses (disk : Disk) (before now : ℕ) (ws : List World) (line : Line) (reply : Reply) : Type 0 where
+-- what a line has of causes once it is done, and before its reply is said; the records that it needs were read at a moment of it
+pub record LineCauses (old disk : Disk) (before now : ℕ) (ws : List World) (line : Line) (reply : Reply) : Type 0 where
+  pub read : ℕ
+  pub from : old.now ≤ read
+  pub upto : read ≤ disk.now
   pub counted : before ≤ now
   pub device : reply ≡ Refused DeviceFailed → Rose before now
-  pub past : reply ≡ Refused NumberEnd → EachLeft disk (λ image. numbers_end past_end_in line image ≡ true)
-  pub in_reach : ReadsNumbers ws line → IsOpenReply reply → EachLeft disk (λ image. numbers_end past_end_in line image ≡ false)
+  pub past : reply ≡ Refused NumberEnd → (image : Image) → disk.may_leave read image → numbers_end past_end_in line image ≡ true
+  pub in_reach : ReadsNumbers ws line → IsOpenReply reply → (image : Image) → disk.may_leave read image → numbers_end past_end_in line image ≡ false
 
 module _ (reading : PageReading) (stands : Image → World → Type 0) where
   abbrev CausedIn : Disk → List World → List ℕ → Instant → TakenLine → Instant → Type 0
@@ -94,22 +97,19 @@ module _ (reading : PageReading) (stands : Image → World → Type 0) where
 
   -- once the reply is said, or a part of it
   module _ (d0 d1 d2 : Disk) (f0 f1 f2 : ℕ) (ws : List World) (line : Line) (answer : Answer) (after : List World) (does : Does reading stands d0 d1 ws line answer after) (goes_on : Keeps d1 d2)
-      (causes : LineCauses d1 f0 f1 ws line answer.reply) (counted : f1 ≤ f2) where
-    upto_now : (t : ℕ) → d1.now ≤ t → t ≤ d1.now → t ≡ d1.now
-    upto_now t from upto = omega (arith, from, upto)
-
+      (causes : LineCauses d0 d1 f0 f1 ws line answer.reply) (counted : f1 ≤ f2) where
     pub line_causes : HasCauses reading stands d0 d2 f0 f2 ws (record { line = line; answer = answer; worlds = after })
     line_causes = record {
-      at = instant d1.now f1;
+      at = record { read = causes.read; clock = d1.now; faults = f1 };
       caused = record {
-        since_clock = does.keeps.later;
-        until_clock = omega arith;
+        since_clock = causes.from;
+        until_clock = causes.upto;
         counted = causes.counted;
         quiet = λ t from upto.
-            goes_on.said t upto ∙ does.quiet t (omega (arith, from, does.keeps.later)) upto;
+            goes_on.said t upto ∙ does.quiet t (omega (arith, from, causes.from)) upto;
         device = causes.device;
-        past = λ is image left. causes.past is image (goes_on.no_more d1.now image (omega arith) left);
-        in_reach = λ reads opened image left. causes.in_reach reads opened image (goes_on.no_more d1.now image (omega arith) left);
+        past = λ is image left. causes.past is image (goes_on.no_more causes.read image causes.upto left);
+        in_reach = λ reads opened image left. causes.in_reach reads opened image (goes_on.no_more causes.read image causes.upto left);
       };
       within = goes_on.later;
       counted = counted;

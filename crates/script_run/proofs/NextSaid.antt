@@ -14,11 +14,11 @@ use Rattle.mdb_model.specs.Text.{line_of, item_words}
 use Rattle.mdb_model.specs.Worlds.{World}
 use Rattle.mdb_host.specs.Disk.{Disk, Keeps}
 use Rattle.mdb_bytes.specs.Held.{next_row}
-use Rattle.db_kernel.specs.declared.database.Database.{Database}
+use Rattle.open_database.specs.declared.database.Database.{Database}
 use Rattle.db_kernel.specs.Kept.{scanned_rows}
 use Rattle.db_kernel.specs.Scanning.{ReadsRow}
-use Rattle.db_kernel.specs.Working.{StandsForOneOf}
-use Rattle.db_kernel.proofs.Fitting.{fits_still}
+use Rattle.open_database.specs.Stretch.{StandsForOneOf}
+use Rattle.db_kernel.proofs.Fitting.{fits_still, rows_still}
 use Rattle.mdb_model.specs.Tables.{Tables}
 use Rattle.script_run.specs.Scans.{GoesOn, SaysNext}
 use Rattle.script_run.specs.Speaking.{Speaks, SaysWhile, row_text}
@@ -42,25 +42,25 @@ module _ (d0 d1 : Disk) (keeps : Keeps d0 d1) (ws : List World) (before after : 
   fault_said reply reads = says_read (StandsForOneOf ws) d0 d1 keeps reads.quiet reads.stand
 
   module _ (d2 : Disk) (reads : ReadsRow d0 d1 ws before after session table from key value IsRow) (speaks : Speaks d1 d2 (line_of (item_words (Row key value)))) where
-    text_is : line_of (item_words (Row key value)) ≡ row_text (next_row (scanned_rows before session) table.0 from)
+    text_is : line_of (item_words (Row key value)) ≡ row_text (next_row (scanned_rows before d0 session) table.0 from)
     text_is = ap row_text (sym reads.is_next)
 
     silent : d1.said d1.now ≡ d0.said d0.now
     silent = reads.quiet d1.now keeps.later (omega arith)
 
-    pub row_cut : SaysWhile d0 d2 (row_text (next_row (scanned_rows before session) table.0 from)) (StandsForOneOf ws)
+    pub row_cut : SaysWhile d0 d2 (row_text (next_row (scanned_rows before d0 session) table.0 from)) (StandsForOneOf ws)
     row_cut =
         subst (λ (l : List ℕ). SaysWhile d0 d2 l (StandsForOneOf ws)) text_is
         (says_on (StandsForOneOf ws) d0 d1 d2 [] (line_of (item_words (Row key value))) (says_read (StandsForOneOf ws) d0 d1 keeps reads.quiet reads.stand)
         (silent ∙ sym (append-nil (d0.said d0.now)))
         (says_of (StandsForOneOf ws) d1 d2 (line_of (item_words (Row key value))) speaks (λ image left. reads.stand d1.now image keeps.later (omega arith) left)))
 
-    pub row_said : d2.said d2.now ≡ d1.said d1.now ++ line_of (item_words (Row key value)) → GoesOn d0 d2 ws before after session (row_text (next_row (scanned_rows before session) table.0 from))
+    pub row_said : d2.said d2.now ≡ d1.said d1.now ++ line_of (item_words (Row key value)) → GoesOn d0 d2 ws before after session (row_text (next_row (scanned_rows before d0 session) table.0 from))
     row_said said = record {
       says = row_cut;
       said = said ∙ (λ i. silent i ++ text_is i);
       fit = fits_still after d1 d2 ws (reads.fit tt) (still_of d1 d2 (line_of (item_words (Row key value))) speaks);
-      same = reads.same tt;
+      same = rows_still d1 d2 (still_of d1 d2 (line_of (item_words (Row key value))) speaks) after session ∙ reads.same tt;
     }
 
 -- where saying it failed

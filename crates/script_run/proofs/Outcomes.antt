@@ -4,7 +4,7 @@
 --     turned_err      a failure in a line
 --     command_causes, refused_causes      the causes of a line
 --     other_scan, other_command      only an open scan is answered by rows
-use Rattle.std.proofs.Common.{◌≡◌, refl, sym, subst, ap, ◌∙◌, ℕ, ◌≤◌, Bool, true, false, List, ◌++◌, Option, Some, None, Result, Ok, Err, IsErr, OnOk, OnErr, arith}
+use Rattle.std.proofs.Common.{◌≡◌, ◌⊎◌, inl, inr, refl, sym, subst, ap, ◌∙◌, ℕ, ◌≤◌, Bool, true, false, List, ◌++◌, Option, Some, None, Result, Ok, Err, IsErr, OnOk, OnErr, arith}
 use Rattle.mdb_model.specs.declared.fault.Failed.{Failed as Fault}
 use Rattle.mdb_model.specs.declared.name.Session.{Session}
 use Rattle.mdb_model.specs.declared.name.Table.{Table}
@@ -23,10 +23,12 @@ use Rattle.mdb_model.specs.Script.{Reads, is_skipped}
 use Rattle.mdb_model.specs.Text.{text_of}
 use Rattle.mdb_model.specs.Worlds.{World}
 use Rattle.mdb_host.specs.Disk.{Disk}
-use Rattle.db_kernel.specs.declared.database.Database.{Database}
-use Rattle.db_kernel.specs.Damages.{EachLeft, IsInReach, IsOpener, are_past_end, past_end_in}
+use Rattle.open_database.specs.declared.database.Database.{Database}
+use Rattle.db_kernel.specs.Taking.{WasInReach}
+use Rattle.db_kernel.specs.Damages.{IsInReach, IsOpener, are_past_end, past_end_in}
+use Rattle.open_database.specs.Stretch.{EachLeft}
 use Rattle.db_kernel.specs.Kept.{FitsWorlds, answer_of}
-use Rattle.db_kernel.specs.Stretch.{Completes}
+use Rattle.open_database.specs.Stretch.{Completes}
 use Rattle.script_run.specs.Along.{Taken}
 use Rattle.script_run.specs.Progress.{DoesLine, ReadsAs, HandlesLine}
 use Rattle.script_run.specs.Speaking.{Speaks, SaysWhile}
@@ -34,7 +36,7 @@ use Rattle.script_run.proofs.Caused.{LineCauses}
 use Rattle.db_kernel.proofs.Fitting.{fits_still, is_off}
 use Rattle.script_run.proofs.Speaking.{says_of, still_of}
 use Rattle.script_run.proofs.Takings.{IsAfter, is_after, taken, taken_whole}
-use Rattle.db_kernel.specs.Outside.{page_reading, StandsFor}
+use Rattle.open_database.specs.Outside.{page_reading, StandsFor}
 
 -- Failures
 
@@ -75,7 +77,7 @@ refused_same a b is = ap refusal_in is
 
 pub does_line : (d0 d1 d2 : Disk) (f0 f1 f2 : ℕ) (ws : List World) (line : Line) (answer : Answer) (after : Option Database)
     → Completes page_reading StandsFor d0 d1 ws line answer (FitsWorlds after d1)
-    → LineCauses d1 f0 f1 ws line answer.reply → f2 ≡ f1 → Speaks d1 d2 (text_of answer) → (r : Result (Unit {0}) Fault) → OnOk r (d2.said d2.now ≡ d1.said d1.now ++ text_of answer)
+    → LineCauses d0 d1 f0 f1 ws line answer.reply → f2 ≡ f1 → Speaks d1 d2 (text_of answer) → (r : Result (Unit {0}) Fault) → OnOk r (d2.said d2.now ≡ d1.said d1.now ++ text_of answer)
     → DoesLine d0 d2 f0 f2 ws line after r
 does_line d0 d1 d2 f0 f1 f2 ws line answer after done causes same speaks r whole = by_result r whole where
   says : SaysWhile d1 d2 (text_of answer) (IsAfter page_reading StandsFor ws line answer.reply done.after)
@@ -132,24 +134,60 @@ opener_of database disk ws fit CheckData reads = absurd reads
 reach_ends : (line : Command) (image : Image) → IsInReach image → past_end_in line image ≡ false
 reach_ends line image reach = (λ i. are_past_end (reach.has_restart i) (reach.has_info i)) ∙ reach.low
 
+-- the lines that open a database, and the replies of those that were done
+opener_or_not : (command : Command) → IsOpener command ⊎ (IsOpener command → ⊥)
+opener_or_not DbAdmin = inl tt
+opener_or_not DbOnline = inl tt
+opener_or_not _ = inr (λ is. is)
+
+open_or_not : (reply : Reply) → IsOpenReply reply ⊎ (IsOpenReply reply → ⊥)
+open_or_not (AdminAt number) = inl tt
+open_or_not (OnlineAt number) = inl tt
+open_or_not (Recovered number) = inl tt
+open_or_not _ = inr (λ is. is)
+
 pub command_causes : (old disk : Disk) (f0 f1 : ℕ) (ws : List World) (database : Option Database) → FitsWorlds database old ws → (command : Command) (reply : Reply)
-    → f0 ≤ f1 → (reply ≡ Refused DeviceFailed → Rose f0 f1)
+    → old.now ≤ disk.now → f0 ≤ f1 → (reply ≡ Refused DeviceFailed → Rose f0 f1)
     → (reply ≡ Refused NumberEnd → EachLeft disk (λ image. past_end_in command image ≡ true))
-    → (database ≡ None → IsOpener command → IsOpenReply reply → EachLeft disk IsInReach)
-    → LineCauses disk f0 f1 ws (Some command) reply
-command_causes old disk f0 f1 ws database fit command reply later device past in_reach = record {
-  counted = later;
-  device = device;
-  past = past;
-  in_reach = λ reads opened image left.
-      let opener = opener_of database old ws fit command reads in
-      reach_ends command image (in_reach opener.0 opener.1 opened image left);
-}
+    → (database ≡ None → IsOpener command → IsOpenReply reply → WasInReach old disk)
+    → LineCauses old disk f0 f1 ws (Some command) reply
+command_causes old disk f0 f1 ws database fit command reply goes later device past in_reach = by_case (opener_or_not command) (open_or_not reply) database refl where
+  -- at the end of the line, where it opens no database
+  at_end : (ReadsNumbers ws (Some command) → IsOpenReply reply → ⊥) → LineCauses old disk f0 f1 ws (Some command) reply
+  at_end never = record {
+    read = disk.now;
+    from = goes;
+    upto = omega arith;
+    counted = later;
+    device = device;
+    past = past;
+    in_reach = λ reads opened. absurd (never reads opened);
+  }
+
+  by_case : IsOpener command ⊎ (IsOpener command → ⊥) → IsOpenReply reply ⊎ (IsOpenReply reply → ⊥) → (o : Option Database) → database ≡ o → LineCauses old disk f0 f1 ws (Some command) reply
+  by_case (inr other) opened o is = at_end (λ reads open_reply. other (opener_of database old ws fit command reads).1)
+  by_case (inl opener) (inr other) o is = at_end (λ reads open_reply. other open_reply)
+  by_case (inl opener) (inl opened) (Some held) is =
+      at_end (λ reads open_reply. let none = (opener_of database old ws fit command reads).0 in let wrong : ◌≡◌ {A = Option Database} None (Some held) = sym none ∙ is in cc)
+  by_case (inl opener) (inl opened) None is =
+      let r = in_reach is opener opened in
+      record {
+        read = r.at;
+        from = r.from;
+        upto = r.upto;
+        counted = later;
+        device = device;
+        past = λ refused. absurd (subst IsOpenReply refused opened);
+        in_reach = λ reads open_reply image left. reach_ends command image (r.each image left);
+      }
 
 -- a line that the kernel does not take has none
 pub refused_causes : (disk : Disk) (f : ℕ) (ws : List World) (line : Line) (refusal : Refusal) → (refusal ≡ DeviceFailed → ⊥) → (refusal ≡ NumberEnd → ⊥)
-    → LineCauses disk f f ws line (Refused refusal)
+    → LineCauses disk disk f f ws line (Refused refusal)
 refused_causes disk f ws line refusal device end = record {
+  read = disk.now;
+  from = omega arith;
+  upto = omega arith;
   counted = omega arith;
   device = λ is. absurd (device (refused_same refusal DeviceFailed is));
   past = λ is. absurd (end (refused_same refusal NumberEnd is));
@@ -157,59 +195,59 @@ refused_causes disk f ws line refusal device end = record {
 }
 
 -- only an open scan is answered by rows
-pub other_scan : (session : Session) (table : Table) (database : Option Database) (reply : Reply) → (reply ≡ ScanOpen → ⊥) → answer_of (ScanTable session table) database reply ≡ plain reply
-other_scan session table database ScanOpen other = absurd (other refl)
-other_scan session table database (Found value) other = refl
-other_scan session table database NoRow other = refl
-other_scan session table database PutDone other = refl
-other_scan session table database DelDone other = refl
-other_scan session table database (Committed commit) other = refl
-other_scan session table database NothingToCommit other = refl
-other_scan session table database RolledBack other = refl
-other_scan session table database (AdminAt commit) other = refl
-other_scan session table database (OnlineAt commit) other = refl
-other_scan session table database OfflineNow other = refl
-other_scan session table database (StateIs state) other = refl
-other_scan session table database SavepointDone other = refl
-other_scan session table database TaskBegun other = refl
-other_scan session table database (Running task) other = refl
-other_scan session table database (PagesSaved kind pages) other = refl
-other_scan session table database (LogSaved first last) other = refl
-other_scan session table database MediumMade other = refl
-other_scan session table database MediumDeleted other = refl
-other_scan session table database MediaOpen other = refl
-other_scan session table database (Recovered commit) other = refl
-other_scan session table database (SnapshotMade number commit) other = refl
-other_scan session table database SnapshotDropped other = refl
-other_scan session table database (Reverted commit) other = refl
-other_scan session table database (InfoIs name commit saved blocks need) other = refl
-other_scan session table database Checked other = refl
-other_scan session table database (Refused refusal) other = refl
+pub other_scan : (session : Session) (table : Table) (database : Option Database) (disk : Disk) (reply : Reply) → (reply ≡ ScanOpen → ⊥) → answer_of (ScanTable session table) database disk reply ≡ plain reply
+other_scan session table database disk ScanOpen other = absurd (other refl)
+other_scan session table database disk (Found value) other = refl
+other_scan session table database disk NoRow other = refl
+other_scan session table database disk PutDone other = refl
+other_scan session table database disk DelDone other = refl
+other_scan session table database disk (Committed commit) other = refl
+other_scan session table database disk NothingToCommit other = refl
+other_scan session table database disk RolledBack other = refl
+other_scan session table database disk (AdminAt commit) other = refl
+other_scan session table database disk (OnlineAt commit) other = refl
+other_scan session table database disk OfflineNow other = refl
+other_scan session table database disk (StateIs state) other = refl
+other_scan session table database disk SavepointDone other = refl
+other_scan session table database disk TaskBegun other = refl
+other_scan session table database disk (Running task) other = refl
+other_scan session table database disk (PagesSaved kind pages) other = refl
+other_scan session table database disk (LogSaved first last) other = refl
+other_scan session table database disk MediumMade other = refl
+other_scan session table database disk MediumDeleted other = refl
+other_scan session table database disk MediaOpen other = refl
+other_scan session table database disk (Recovered commit) other = refl
+other_scan session table database disk (SnapshotMade number commit) other = refl
+other_scan session table database disk SnapshotDropped other = refl
+other_scan session table database disk (Reverted commit) other = refl
+other_scan session table database disk (InfoIs name commit saved blocks need) other = refl
+other_scan session table database disk Checked other = refl
+other_scan session table database disk (Refused refusal) other = refl
 
-pub other_command : (command : Command) (database : Option Database) (reply : Reply) → ((session : Session) (table : Table) → command ≡ ScanTable session table → ⊥) → answer_of command database reply ≡ plain reply
-other_command (ScanTable session table) database reply other = absurd (other session table refl)
-other_command (GetRow session table key) database reply other = refl
-other_command (PutRow session table key value) database reply other = refl
-other_command (DelRow session table key) database reply other = refl
-other_command (CommitWork session) database reply other = refl
-other_command (RollbackWork session) database reply other = refl
-other_command DbAdmin database reply other = refl
-other_command DbOnline database reply other = refl
-other_command DbOffline database reply other = refl
-other_command DbState database reply other = refl
-other_command Kill database reply other = refl
-other_command MakeSavepoint database reply other = refl
-other_command TaskSavepoint database reply other = refl
-other_command (TaskBackup medium kind) database reply other = refl
-other_command TurnSavepoint database reply other = refl
-other_command TurnBackup database reply other = refl
-other_command (MediumPut medium pages) database reply other = refl
-other_command (MediumDelete medium) database reply other = refl
-other_command MediumList database reply other = refl
-other_command (BackupStart medium kind) database reply other = refl
-other_command (Recover media log until) database reply other = refl
-other_command SnapshotCreate database reply other = refl
-other_command (SnapshotDrop number) database reply other = refl
-other_command (SnapshotRevert number) database reply other = refl
-other_command Info database reply other = refl
-other_command CheckData database reply other = refl
+pub other_command : (command : Command) (database : Option Database) (disk : Disk) (reply : Reply) → ((session : Session) (table : Table) → command ≡ ScanTable session table → ⊥) → answer_of command database disk reply ≡ plain reply
+other_command (ScanTable session table) database disk reply other = absurd (other session table refl)
+other_command (GetRow session table key) database disk reply other = refl
+other_command (PutRow session table key value) database disk reply other = refl
+other_command (DelRow session table key) database disk reply other = refl
+other_command (CommitWork session) database disk reply other = refl
+other_command (RollbackWork session) database disk reply other = refl
+other_command DbAdmin database disk reply other = refl
+other_command DbOnline database disk reply other = refl
+other_command DbOffline database disk reply other = refl
+other_command DbState database disk reply other = refl
+other_command Kill database disk reply other = refl
+other_command MakeSavepoint database disk reply other = refl
+other_command TaskSavepoint database disk reply other = refl
+other_command (TaskBackup medium kind) database disk reply other = refl
+other_command TurnSavepoint database disk reply other = refl
+other_command TurnBackup database disk reply other = refl
+other_command (MediumPut medium pages) database disk reply other = refl
+other_command (MediumDelete medium) database disk reply other = refl
+other_command MediumList database disk reply other = refl
+other_command (BackupStart medium kind) database disk reply other = refl
+other_command (Recover media log until) database disk reply other = refl
+other_command SnapshotCreate database disk reply other = refl
+other_command (SnapshotDrop number) database disk reply other = refl
+other_command (SnapshotRevert number) database disk reply other = refl
+other_command Info database disk reply other = refl
+other_command CheckData database disk reply other = refl

@@ -13,9 +13,9 @@ use Rattle.mdb_model.specs.Runs.{Line, TakenLine, Run, last_worlds}
 use Rattle.mdb_model.specs.Serial.{IsSerial}
 use Rattle.mdb_model.specs.Script.{Reads, is_skipped, line_weight, script_lines, most_lines}
 use Rattle.mdb_model.specs.Worlds.{World}
-use Rattle.db_kernel.specs.declared.database.Database.{Database}
+use Rattle.open_database.specs.declared.database.Database.{Database}
 use Rattle.db_kernel.specs.Kept.{FitsWorlds}
-use Rattle.db_kernel.specs.Stretch.{LeavesOnly}
+use Rattle.open_database.specs.Stretch.{LeavesOnly}
 use Rattle.script_run.specs.Along.{Taken, KeepsSerialRun}
 use Rattle.script_lines.specs.declared.lines.LineKind.{LineKind}
 use Rattle.script_lines.specs.declared.lines.LineKind.TheVariants.{Text, TooLong, End}
@@ -24,7 +24,8 @@ use Rattle.script_lines.specs.Reading.{Reading, HasRead, FindsNextLine, Advances
 use Rattle.script_lines.proofs.ReadingLaws.{weight-text, script_at_end, script_at_failure, weight-push, limit_answered, limit_shorter, kept-skipped, kept-answered, AreRead-begins}
 use Rattle.script_lines.proofs.ReadingSteps.{HasRead-lines}
 use Rattle.script_run.proofs.Turns.{served_none, served_next, promise_whole, promise_cut}
-use Rattle.db_kernel.specs.Outside.{page_reading, StandsFor}
+use Rattle.script_run.proofs.TiedRecords.{records_in}
+use Rattle.open_database.specs.Outside.{page_reading, StandsFor}
 
 -- one more line and what it reads as
 reads_push : (texts : List (List ℕ)) (ls : List Line) (text : List ℕ) (line : Line) → AllZip Reads texts ls → Reads text line → AllZip Reads (texts ++ text ∷ []) (ls ++ line ∷ [])
@@ -282,7 +283,7 @@ module _ (from : List (World × Ages)) (serial_of : (run : List TakenLine) → R
     (reader2 : Reading) (told2 : Option (List ℕ)) where
   whole : (status : Status) → ((before said : List ℕ) (run : List TakenLine) → said ≡ before ++ concat (texts_of run) → RepliesAreSaid status before said run)
       → ((run : List TakenLine) → lines_of run ≡ p.lines → ScriptIsRead status told0 told2 run) → KeepsSerialRun page_reading StandsFor d0 d1 f0 f1 from status told0 told2
-  whole status said_so read_so = promise_whole page_reading StandsFor d0 d1 f0 f1 from serial_of status told0 told2 p.lines (FitsWorlds database d1) said_so read_so p.served
+  whole status said_so read_so = promise_whole page_reading StandsFor d0 d1 f0 f1 from serial_of (records_in d0 d1 (map (λ (e : World × Ages). e.0) from)) status told0 told2 p.lines (FitsWorlds database d1) said_so read_so p.served
 
   pub ends_done : (kind : LineKind) → is_end kind ≡ true → Advances told told2 reader reader2 (Ok kind) → KeepsSerialRun page_reading StandsFor d0 d1 f0 f1 from Done told0 told2
   ends_done kind end advances = whole Done (λ before said run is. is) (λ run lines_are bytes is.
@@ -308,7 +309,7 @@ module _ (from : List (World × Ages)) (serial_of : (run : List TakenLine) → R
       → Taken page_reading StandsFor d1 dn f1 fn (last_worlds page_reading (map (λ (e : World × Ages). e.0) from) p.served.run) line
       → KeepsSerialRun page_reading StandsFor d0 dn f0 fn from SayFault told0 told2
   ends_say kind not_end advances small fits dn fn line reads next =
-      promise_cut page_reading StandsFor d0 dn f0 fn from serial_of d1 f1 p.lines line (FitsWorlds database d1) p.served next told0 told2 (λ run lines_are bytes is.
+      promise_cut page_reading StandsFor d0 dn f0 fn from serial_of (records_in d0 dn (map (λ (e : World × Ages). e.0) from)) d1 f1 p.lines line (FitsWorlds database d1) p.served next told0 told2 (λ run lines_are bytes is.
       let q = p.script bytes is in
       let h = line_found bytes reader told count p.lines q kind reader2 told2 not_end advances in
       read_to_reply bytes reader told count p.lines q h.more h.rest h.split told2 h.is_left h.found.text h.found.more h.found.are
@@ -318,7 +319,7 @@ module _ (from : List (World × Ages)) (serial_of : (run : List TakenLine) → R
 pub ends_memory : (from : List (World × Ages)) (serial_of : (run : List TakenLine) → Run page_reading (map (λ (e : World × Ages). e.0) from) run → IsSerial run) (d : Disk) (f : ℕ) (told : Option (List ℕ))
     → LeavesOnly page_reading StandsFor d (map (λ (e : World × Ages). e.0) from) → KeepsSerialRun page_reading StandsFor d d f f from Memory told told
 ends_memory from serial_of d f told stand =
-    promise_whole page_reading StandsFor d d f f from serial_of Memory told told [] (λ vs. Unit {0}) (λ before said run is. is) (λ run lines_are bytes is. ([], (bytes, refl, is, no_run run lines_are)))
+    promise_whole page_reading StandsFor d d f f from serial_of (records_in d d (map (λ (e : World × Ages). e.0) from)) Memory told told [] (λ vs. Unit {0}) (λ before said run is. is) (λ run lines_are bytes is. ([], (bytes, refl, is, no_run run lines_are)))
     (served_none page_reading StandsFor d f (map (λ (e : World × Ages). e.0) from) (λ vs. Unit {0}) tt stand)
   where
     no_run : (run : List TakenLine) → lines_of run ≡ [] → run ≡ []

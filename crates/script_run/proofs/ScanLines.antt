@@ -24,11 +24,12 @@ use Rattle.mdb_model.specs.Runs.{Line, Step, Entry, Stepped, Starved, Failed, Fo
 use Rattle.mdb_model.specs.Steps.{Facts, done}
 use Rattle.mdb_model.specs.Worlds.{World, off}
 use Rattle.mdb_host.specs.Disk.{Disk}
-use Rattle.db_kernel.specs.declared.database.Database.{Database}
-use Rattle.db_kernel.specs.Kept.{FitsWorlds, AreOff}
-use Rattle.db_kernel.specs.Outside.{page_reading, StandsFor}
-use Rattle.db_kernel.specs.Stretch.{Does, Completes, MayBe}
-use Rattle.db_kernel.specs.Working.{StandsForOneOf}
+use Rattle.open_database.specs.declared.database.Database.{Database}
+use Rattle.db_kernel.specs.Kept.{FitsWorlds}
+use Rattle.open_database.specs.Serving.{AreOff}
+use Rattle.open_database.specs.Outside.{page_reading, StandsFor}
+use Rattle.open_database.specs.Stretch.{Does, Completes, MayBe}
+use Rattle.open_database.specs.Stretch.{StandsForOneOf}
 use Rattle.db_kernel.proofs.Fitting.{fits_off}
 use Rattle.db_kernel.proofs.Untied.{scans_untied}
 use Rattle.script_run.specs.Progress.{DoesLine}
@@ -203,21 +204,27 @@ module _ (d0 d1 : Disk) (ws : List World) (session : Session) (table : Table) (r
 pub rose_since : (a b c : ℕ) → a ≤ b → Rose b c → Rose a c
 rose_since a b c le rose = omega (arith, le, rose)
 
-ends_causes : (disk : Disk) (ws : List World) (session : Session) (table : Table) (f0 f1 f2 : ℕ) → f0 ≤ f1 → f1 ≤ f2 → (rows items : List Item) (reply : Reply) (database : Option Database)
-    → EndsRows rows items f1 f2 database reply → LineCauses disk f0 f2 ws (Some (ScanTable session table)) reply
-ends_causes disk ws session table f0 f1 f2 le later rows items ScanOpen database is = record {
+ends_causes : (old disk : Disk) → old.now ≤ disk.now → (ws : List World) (session : Session) (table : Table) (f0 f1 f2 : ℕ) → f0 ≤ f1 → f1 ≤ f2 → (rows items : List Item) (reply : Reply) (database : Option Database)
+    → EndsRows rows items f1 f2 database reply → LineCauses old disk f0 f2 ws (Some (ScanTable session table)) reply
+ends_causes old disk goes ws session table f0 f1 f2 le later rows items ScanOpen database is = record {
+  read = disk.now;
+  from = goes;
+  upto = omega arith;
   counted = omega (arith, le, later);
   device = λ same. let e : ScanOpen ≡ Refused DeviceFailed = same in absurd cc;
   past = λ same. let e : ScanOpen ≡ Refused NumberEnd = same in absurd cc;
   in_reach = λ reads. absurd reads;
 }
-ends_causes disk ws session table f0 f1 f2 le later rows items (Refused DeviceFailed) database is = record {
+ends_causes old disk goes ws session table f0 f1 f2 le later rows items (Refused DeviceFailed) database is = record {
+  read = disk.now;
+  from = goes;
+  upto = omega arith;
   counted = omega (arith, le, later);
   device = λ same. rose_since f0 f1 f2 le is.1;
   past = λ same. let e : Refused DeviceFailed ≡ Refused NumberEnd = same in absurd cc;
   in_reach = λ reads. absurd reads;
 }
-ends_causes disk ws session table f0 f1 f2 le later rows items _ database is = absurd is
+ends_causes old disk goes ws session table f0 f1 f2 le later rows items _ database is = absurd is
 
 -- the kernel fits what the line leaves
 fits_end : (disk d0 d1 : Disk) (ws : List World) (session : Session) (table : Table) (rows items : List Item) (reply : Reply) (opened : List World) (f1 f2 : ℕ) (database : Option Database)
@@ -234,10 +241,10 @@ module _ (d0 d1 d2 : Disk) (f0 f1 f2 : ℕ) (counted : f0 ≤ f1) (later : f1 �
       let e = ended d0 d1 ws session table rows done_so.after done_so.does w there s.items s.reply f1 f2 database s.ends in
       taken_whole page_reading StandsFor d0 d1 d2 ws (Some (ScanTable session table)) (record { items = s.items; reply = s.reply }) e.after e.does
       (says_as (StandsForOneOf done_so.after) (IsAfter page_reading StandsFor ws (Some (ScanTable session table)) s.reply e.after) e.each d1 d2 (scan_text s.items s.reply) s.says)
-      f0 f2 f2 (ends_causes d1 ws session table f0 f1 f2 counted later rows s.items s.reply database s.ends) (omega arith) (FitsWorlds database d2)
+      f0 f2 f2 (ends_causes d0 d1 done_so.does.keeps.later ws session table f0 f1 f2 counted later rows s.items s.reply database s.ends) (omega arith) (FitsWorlds database d2)
       (fits_end d2 d0 d1 ws session table rows s.items s.reply done_so.after f1 f2 database s.ends e s.fit) s.said
   scan_line (Err fault) s =
       let e = ended d0 d1 ws session table rows done_so.after done_so.does w there s.items s.reply f1 f2 database s.ends in
       taken page_reading StandsFor d0 d1 d2 ws (Some (ScanTable session table)) (record { items = s.items; reply = s.reply }) e.after e.does
       (says_as (StandsForOneOf done_so.after) (IsAfter page_reading StandsFor ws (Some (ScanTable session table)) s.reply e.after) e.each d1 d2 (scan_text s.items s.reply) s.says)
-      f0 f2 f2 (ends_causes d1 ws session table f0 f1 f2 counted later rows s.items s.reply database s.ends) (omega arith)
+      f0 f2 f2 (ends_causes d0 d1 done_so.does.keeps.later ws session table f0 f1 f2 counted later rows s.items s.reply database s.ends) (omega arith)

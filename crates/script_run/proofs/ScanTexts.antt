@@ -22,11 +22,11 @@ use Rattle.mdb_model.specs.Worlds.{World}
 use Rattle.mdb_host.specs.Disk.{Disk}
 use Rattle.mdb_bytes.specs.Held.{next_row}
 use Rattle.mdb_bytes.proofs.Scanning.{rows_behind, ScannedTo, scan_first, scan_step, scan_end, behind_front, none_behind}
-use Rattle.db_kernel.specs.declared.database.Database.{Database}
+use Rattle.open_database.specs.declared.database.Database.{Database}
 use Rattle.db_kernel.specs.Kept.{FitsWorlds, scanned_rows}
-use Rattle.db_kernel.specs.Outside.{page_reading, StandsFor}
-use Rattle.db_kernel.specs.Stretch.{LeavesOnly}
-use Rattle.db_kernel.specs.Working.{StandsForOneOf}
+use Rattle.open_database.specs.Outside.{page_reading, StandsFor}
+use Rattle.open_database.specs.Stretch.{LeavesOnly}
+use Rattle.open_database.specs.Stretch.{StandsForOneOf}
 use Rattle.script_run.specs.Speaking.{Speaks, SaysWhile, row_text, items_text}
 use Rattle.script_run.specs.Scans.{IsOpenScan, GoesOn, SaysNext, EndsRows, HasSaidRows, SaysRows, SaysScan, scan_text}
 use Rattle.script_run.proofs.Speaking.{says_none, says_part, says_on, says_of, none_said}
@@ -40,39 +40,39 @@ end_text count reply = line_of (reply_words count reply)
 -- the rows of a table up to a key are said, and they are so many; the kernel goes on with the same rows
 pub record SaidTo (ws : List World) (before : Option Database) (session : Session) (table : Table) (old now : Disk) (database : Option Database) (count : ℕ) (after : List ℕ) : Type 0 where
   pub done : List Item
-  pub scanned : ScannedTo (scanned_rows before session) table.0 after done
+  pub scanned : ScannedTo (scanned_rows before old session) table.0 after done
   pub count_is : length done ≡ count
   pub says : SaysWhile old now (items_text done) (StandsForOneOf ws)
   pub said : now.said now.now ≡ old.said old.now ++ items_text done
   pub fit : FitsWorlds database now ws
-  pub same : scanned_rows database session ≡ scanned_rows before session
+  pub same : scanned_rows database now session ≡ scanned_rows before old session
 
-module _ (ws : List World) (before : Option Database) (session : Session) (table : Table) where
+module _ (ws : List World) (before : Option Database) (session : Session) (table : Table) (old : Disk) where
   abbrev tables : Tables
-  tables = scanned_rows before session
+  tables = scanned_rows before old session
 
   abbrev rows : List Item
-  rows = rows_of (scanned_rows before session) table.0
+  rows = rows_of (scanned_rows before old session) table.0
 
-  pub said_first : (disk : Disk) → IsOpenScan disk ws before session table → SaidTo ws before session table disk disk before 0 []
-  said_first disk open_scan = record {
+  pub said_first : IsOpenScan old ws before session table → SaidTo ws before session table old old before 0 []
+  said_first open_scan = record {
     done = [];
-    scanned = scan_first (scanned_rows before session) table.0 (open_scan.keys table.0);
+    scanned = scan_first (scanned_rows before old session) table.0 (open_scan.keys table.0);
     count_is = refl;
-    says = says_none (StandsForOneOf ws) disk open_scan.stand;
-    said = sym (append-nil (disk.said disk.now));
+    says = says_none (StandsForOneOf ws) old open_scan.stand;
+    said = sym (append-nil (old.said old.now));
     fit = open_scan.fit;
     same = refl;
   }
 
-  module _ (old mid new : Disk) (database after : Option Database) (count : ℕ) (from : List ℕ) (so_far : SaidTo ws before session table old mid database count from) where
+  module _ (mid new : Disk) (database after : Option Database) (count : ℕ) (from : List ℕ) (so_far : SaidTo ws before session table old mid database count from) where
     -- each image stands for one of the worlds now
     pub stand_now : LeavesOnly page_reading StandsFor mid ws
     stand_now image left = so_far.says.each mid.now image so_far.says.keeps.later (omega arith) left
 
     -- the next row is one of the rows that were there at first
-    pub next_says : (key : List ℕ) (r : Result Next Fault) → SaysNext mid new ws database after session (scanned_rows database session) table from key r
-        → SaysNext mid new ws database after session (scanned_rows before session) table from key r
+    pub next_says : (key : List ℕ) (r : Result Next Fault) → SaysNext mid new ws database after session (scanned_rows database mid session) table from key r
+        → SaysNext mid new ws database after session (scanned_rows before old session) table from key r
     next_says key r says = subst (λ (t : Tables). SaysNext mid new ws database after session t table from key r) so_far.same says
 
     -- what is said of it, and more
@@ -83,18 +83,18 @@ module _ (ws : List World) (before : Option Database) (session : Session) (table
     further_said text said = said ∙ ap (λ (l : List ℕ). l ++ text) so_far.said ∙ append_assoc (old.said old.now) (items_text so_far.done) text
 
     -- the next row was said
-    pub said_more : (key : List ℕ) → ((value : List ℕ) × (next_row (scanned_rows before session) table.0 from ≡ Some (key, value)))
-        → GoesOn mid new ws database after session (row_text (next_row (scanned_rows before session) table.0 from))
+    pub said_more : (key : List ℕ) → ((value : List ℕ) × (next_row (scanned_rows before old session) table.0 from ≡ Some (key, value)))
+        → GoesOn mid new ws database after session (row_text (next_row (scanned_rows before old session) table.0 from))
         → SaidTo ws before session table old new after (count + 1) key
     said_more key next goes =
         let row = Row key next.0 in
-        let text : items_text so_far.done ++ row_text (next_row (scanned_rows before session) table.0 from) ≡ items_text (so_far.done ++ row ∷ []) =
+        let text : items_text so_far.done ++ row_text (next_row (scanned_rows before old session) table.0 from) ≡ items_text (so_far.done ++ row ∷ []) =
         ap (λ o. items_text so_far.done ++ row_text o) next.1
         ∙ ap (λ (l : List ℕ). items_text so_far.done ++ l) (sym (append-nil (item_text row)))
         ∙ sym (flat_map-append item_text so_far.done (row ∷ [])) in
         record {
           done = so_far.done ++ row ∷ [];
-          scanned = scan_step (scanned_rows before session) table.0 from so_far.done so_far.scanned key next.0 next.1;
+          scanned = scan_step (scanned_rows before old session) table.0 from so_far.done so_far.scanned key next.0 next.1;
           count_is = length-append so_far.done (row ∷ []) ∙ ap (λ n. n + 1) so_far.count_is;
           says = subst (λ (l : List ℕ). SaysWhile old new l (StandsForOneOf ws)) text (further _ goes.says);
           said = further_said _ goes.said ∙ ap (λ (l : List ℕ). old.said old.now ++ l) text;
@@ -110,12 +110,12 @@ module _ (ws : List World) (before : Option Database) (session : Session) (table
     still_said says = none_said mid new (StandsForOneOf ws) says ∙ so_far.said
 
     -- all rows are said
-    pub ended_whole : (f0 f1 : ℕ) → next_row (scanned_rows before session) table.0 from ≡ None → GoesOn mid new ws database after session []
+    pub ended_whole : (f0 f1 : ℕ) → next_row (scanned_rows before old session) table.0 from ≡ None → GoesOn mid new ws database after session []
         → HasSaidRows old new f0 f1 ws rows after count ScanOpen
     ended_whole f0 f1 none goes = record {
       items = so_far.done;
       count_is = so_far.count_is;
-      ends = scan_end (scanned_rows before session) table.0 from so_far.done so_far.scanned none;
+      ends = scan_end (scanned_rows before old session) table.0 from so_far.done so_far.scanned none;
       says = still_says goes.says;
       said = still_said goes.says;
       fit = λ open_reply. goes.fit;
@@ -127,7 +127,7 @@ module _ (ws : List World) (before : Option Database) (session : Session) (table
     ended_failed f0 f1 rose off says = record {
       items = so_far.done;
       count_is = so_far.count_is;
-      ends = ((rows_behind (scanned_rows before session) table.0 from, so_far.scanned.split), rose, off);
+      ends = ((rows_behind (scanned_rows before old session) table.0 from, so_far.scanned.split), rose, off);
       says = still_says says;
       said = still_said says;
       fit = λ same. absurd (not_open same);
@@ -137,30 +137,30 @@ module _ (ws : List World) (before : Option Database) (session : Session) (table
         not_open same = cc
 
     -- the rest of the text begins with the next row
-    rest_front : (end : List ℕ) → (more : List ℕ) × (row_text (next_row (scanned_rows before session) table.0 from) ++ more ≡ items_text (rows_behind (scanned_rows before session) table.0 from) ++ end)
-    rest_front end = by_row (next_row (scanned_rows before session) table.0 from) refl where
-      by_row : (o : Option (List ℕ × List ℕ)) → next_row (scanned_rows before session) table.0 from ≡ o → (more : List ℕ) × (row_text o ++ more ≡ items_text (rows_behind (scanned_rows before session) table.0 from) ++ end)
-      by_row None is = (end, ap (λ (l : List Item). items_text l ++ end) (sym (none_behind (scanned_rows before session) table.0 from is)))
+    rest_front : (end : List ℕ) → (more : List ℕ) × (row_text (next_row (scanned_rows before old session) table.0 from) ++ more ≡ items_text (rows_behind (scanned_rows before old session) table.0 from) ++ end)
+    rest_front end = by_row (next_row (scanned_rows before old session) table.0 from) refl where
+      by_row : (o : Option (List ℕ × List ℕ)) → next_row (scanned_rows before old session) table.0 from ≡ o → (more : List ℕ) × (row_text o ++ more ≡ items_text (rows_behind (scanned_rows before old session) table.0 from) ++ end)
+      by_row None is = (end, ap (λ (l : List Item). items_text l ++ end) (sym (none_behind (scanned_rows before old session) table.0 from is)))
       by_row (Some row) is = (
-        items_text (rows_behind (scanned_rows before session) table.0 row.0) ++ end,
-        sym (append_assoc (item_text (Row row.0 row.1)) (items_text (rows_behind (scanned_rows before session) table.0 row.0)) end)
-            ∙ ap (λ (l : List Item). items_text l ++ end) (sym (behind_front (scanned_rows before session) table.0 from row.0 row.1 is)),
+        items_text (rows_behind (scanned_rows before old session) table.0 row.0) ++ end,
+        sym (append_assoc (item_text (Row row.0 row.1)) (items_text (rows_behind (scanned_rows before old session) table.0 row.0)) end)
+            ∙ ap (λ (l : List Item). items_text l ++ end) (sym (behind_front (scanned_rows before old session) table.0 from row.0 row.1 is)),
       )
 
-    whole_text : (end : List ℕ) → items_text so_far.done ++ (items_text (rows_behind (scanned_rows before session) table.0 from) ++ end) ≡ items_text rows ++ end
+    whole_text : (end : List ℕ) → items_text so_far.done ++ (items_text (rows_behind (scanned_rows before old session) table.0 from) ++ end) ≡ items_text rows ++ end
     whole_text end =
-        sym (append_assoc (items_text so_far.done) (items_text (rows_behind (scanned_rows before session) table.0 from)) end)
-        ∙ ap (λ (l : List ℕ). l ++ end) (sym (flat_map-append item_text so_far.done (rows_behind (scanned_rows before session) table.0 from)))
+        sym (append_assoc (items_text so_far.done) (items_text (rows_behind (scanned_rows before old session) table.0 from)) end)
+        ∙ ap (λ (l : List ℕ). l ++ end) (sym (flat_map-append item_text so_far.done (rows_behind (scanned_rows before old session) table.0 from)))
         ∙ ap (λ (l : List Item). items_text l ++ end) (sym so_far.scanned.split)
 
     -- it was not said to its end
-    pub cut_row : SaysWhile mid new (row_text (next_row (scanned_rows before session) table.0 from)) (StandsForOneOf ws) → SaysWhile old new (scan_text rows ScanOpen) (StandsForOneOf ws)
+    pub cut_row : SaysWhile mid new (row_text (next_row (scanned_rows before old session) table.0 from)) (StandsForOneOf ws) → SaysWhile old new (scan_text rows ScanOpen) (StandsForOneOf ws)
     cut_row says =
         let end = end_text (length rows) ScanOpen in
         let front = rest_front end in
         subst (λ (l : List ℕ). SaysWhile old new l (StandsForOneOf ws)) (whole_text end)
-        (further (items_text (rows_behind (scanned_rows before session) table.0 from) ++ end)
-        (subst (λ (l : List ℕ). SaysWhile mid new l (StandsForOneOf ws)) front.1 (says_part (StandsForOneOf ws) mid new (row_text (next_row (scanned_rows before session) table.0 from)) front.0 says)))
+        (further (items_text (rows_behind (scanned_rows before old session) table.0 from) ++ end)
+        (subst (λ (l : List ℕ). SaysWhile mid new l (StandsForOneOf ws)) front.1 (says_part (StandsForOneOf ws) mid new (row_text (next_row (scanned_rows before old session) table.0 from)) front.0 says)))
 
 -- The reply after the rows
 

@@ -8,7 +8,7 @@ use Rattle.std.proofs.Math.Seq.{take-append-add}
 use Rattle.mdb_model.specs.Images.{Image}
 use Rattle.mdb_host.specs.Disk.{Disk, Keeps, Says}
 use Rattle.mdb_host.proofs.Moments.{keeps_all, keeps_on, same_image}
-use Rattle.db_kernel.specs.Stretch.{IsStill}
+use Rattle.open_database.specs.Stretch.{IsStill}
 use Rattle.script_run.specs.Speaking.{Speaks, SaysWhile}
 
 same_moment : (a b : ℕ) → a ≤ b → b ≤ a → a ≡ b

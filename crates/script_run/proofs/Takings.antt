@@ -11,8 +11,8 @@ use Rattle.mdb_model.specs.Worlds.{World, off}
 use Rattle.mdb_model.specs.Answers.{Answer}
 use Rattle.mdb_model.specs.Text.{text_of}
 use Rattle.mdb_model.specs.Runs.{Line, TakenLine}
-use Rattle.db_kernel.specs.Outside.{Ties}
-use Rattle.db_kernel.specs.Stretch.{Does, MayBe}
+use Rattle.open_database.specs.Outside.{Ties}
+use Rattle.open_database.specs.Stretch.{Does, MayBe}
 use Rattle.script_run.specs.Speaking.{SaysWhile}
 use Rattle.script_run.specs.Along.{At, Passes, Taken, TakenWhole}
 use Rattle.script_run.proofs.Caused.{LineCauses, line_causes}
@@ -116,7 +116,7 @@ module _ (reading : PageReading) (stands : Image → World → Type 0) where
     end : (n : ℕ) × (n ≤ length (text_of answer)) × (d2.said d2.now ≡ d1.said d1.now ++ take n (text_of answer))
     end = says.part d2.now says.keeps.later (omega arith)
 
-    pub taken : (before mid now : ℕ) → LineCauses d1 before mid ws line answer.reply → mid ≤ now → Taken reading stands d0 d2 before now ws line
+    pub taken : (before mid now : ℕ) → LineCauses d0 d1 before mid ws line answer.reply → mid ≤ now → Taken reading stands d0 d2 before now ws line
     taken before mid now causes counted = record {
       entry = entry;
       is = refl;
@@ -127,7 +127,7 @@ module _ (reading : PageReading) (stands : Image → World → Type 0) where
       prefix = (drop end.0 (text_of answer), take-append-drop end.0 (text_of answer));
     }
 
-    pub taken_whole : (before mid now : ℕ) → LineCauses d1 before mid ws line answer.reply → mid ≤ now → (fits : List World → Type 0) → fits after
+    pub taken_whole : (before mid now : ℕ) → LineCauses d0 d1 before mid ws line answer.reply → mid ≤ now → (fits : List World → Type 0) → fits after
         → d2.said d2.now ≡ d1.said d1.now ++ text_of answer → TakenWhole reading stands d0 d2 before now ws line fits
     taken_whole before mid now causes counted fits fit whole = record {
       entry = entry;

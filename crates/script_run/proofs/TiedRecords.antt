@@ -2,7 +2,8 @@
 -- knows no tasks, no line begins one, and nothing more is asked.
 --     tied_of      what a line ties does not go by what the host says and leaves
 --     no_task      no line begins a savepoint task
---     records_tied, records_of_call      the records of a whole run; those of a call of the program
+--     records_tied, records_of_call      the records of a whole run
+--     records_in      those of a call of the program
 use Rattle.std.proofs.Common.{◌≡◌, subst, ap, ℕ, zero, suc, ◌+◌, List, [], ◌∷◌, Option, Some, None, IsTrue, Contains, arith}
 use Rattle.std.specs.Prelude.{slice_get}
 use Rattle.std.specs.List.{AllZip}
@@ -18,7 +19,8 @@ use Rattle.mdb_model.specs.Pages.{PageReading, PageMap}
 use Rattle.mdb_model.specs.Runs.{Line, TakenLine, Step, Entry, Stepped, Starved, Failed, FoundOut, Run, reopens, worlds_after}
 use Rattle.mdb_model.specs.Worlds.{World}
 use Rattle.mdb_host.specs.Disk.{Disk}
-use Rattle.db_kernel.specs.Outside.{Ties}
+use Rattle.open_database.specs.Outside.{page_reading, StandsFor, Ties}
+use Rattle.standing.specs.WholeStanding.{pages_in, savepoint_in, commit_number_in}
 use Rattle.script_run.specs.Along.{AreTied}
 
 abbrev the_one : TakenLine → Option TakenLine → TakenLine
@@ -131,3 +133,13 @@ pub records_of_call : (reading : PageReading) (stands : DiskImage → World → 
 records_of_call reading stands other_said other_may_leave other_stands pages_in savepoint_in commit_in ties old new ws run follows tied =
     records_tied reading new.said other_said new.may_leave other_may_leave stands other_stands pages_in savepoint_in commit_in old.now new.now ws run follows
     (λ k line reply before after is t image from upto replied left. ties line reply before after image (tied k line reply before after is t image from upto replied left))
+
+-- what a line ties is what the machine asks
+ties_say : (line : Line) (reply : Reply) (before after : World) (image : DiskImage) → Ties line reply before after image
+    → IsTied page_reading (λ (t : ℕ). []) (λ (t : ℕ) (other : DiskImage). ⊥) StandsFor pages_in savepoint_in commit_number_in line reply before after image
+unfolding Ties
+ties_say line reply before after image tied = tied
+
+pub records_in : (old new : Disk) (ws : List World) (run : List TakenLine) → Run page_reading ws run → AreTied page_reading StandsFor old new ws run
+    → RecordsAreTied page_reading new.said new.may_leave StandsFor pages_in savepoint_in commit_number_in old.now new.now ws run
+records_in = records_of_call page_reading StandsFor (λ (t : ℕ). []) (λ (t : ℕ) (other : DiskImage). ⊥) StandsFor pages_in savepoint_in commit_number_in ties_say

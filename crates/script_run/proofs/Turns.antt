@@ -17,10 +17,11 @@ use Rattle.mdb_model.specs.Runs.{Line, TakenLine, Run, last_worlds}
 use Rattle.mdb_model.specs.Serial.{IsSerial}
 use Rattle.mdb_model.proofs.SerialLaw.{serial}
 use Rattle.mdb_model.specs.Agreement.{Ages, IsSound, Agrees}
-use Rattle.mdb_model.specs.Headline.{IsPrefix, CrashesStand, CanStart, Instant, IsCaused, AreCaused, ScriptIsRead, RepliesAreSaid, texts_of, lines_of}
+use Rattle.mdb_model.specs.Headline.{IsPrefix, CrashesStand, CanStart, Instant, IsCaused, AreCaused, ScriptIsRead, RepliesAreSaid, texts_of, lines_of, RecordsAreTied}
 use Rattle.db_kernel.specs.Damages.{past_end_in}
-use Rattle.db_kernel.specs.Stretch.{LeavesOnly}
-use Rattle.script_run.specs.Along.{instant, Passes, Taken, TakenWhole, Served, KeepsSerialRun}
+use Rattle.open_database.specs.Stretch.{LeavesOnly}
+use Rattle.standing.specs.WholeStanding.{pages_in, savepoint_in, commit_number_in}
+use Rattle.script_run.specs.Along.{instant, AreTied, Passes, Taken, TakenWhole, Served, KeepsSerialRun}
 use Rattle.script_run.proofs.Caused.{caused_push}
 use Rattle.script_run.proofs.Texts.{said_all, said_then, lines-append}
 use Rattle.script_run.proofs.Join.{join, join_said, begins, last-append}
@@ -68,7 +69,9 @@ module _ (reading : PageReading) (stands : Image → World → Type 0) where
   -- The whole call
 
   module _ (d0 dn : Disk) (f0 fn : ℕ) (old : List (World × Ages))
-      (serial_of : (run : List TakenLine) → Run reading (map (λ (e : World × Ages). e.0) old) run → IsSerial run) where
+      (serial_of : (run : List TakenLine) → Run reading (map (λ (e : World × Ages). e.0) old) run → IsSerial run)
+      (records_of : (run : List TakenLine) → Run reading (map (λ (e : World × Ages). e.0) old) run → AreTied reading stands d0 dn (map (λ (e : World × Ages). e.0) old) run
+      → RecordsAreTied reading dn.said dn.may_leave stands pages_in savepoint_in commit_number_in d0.now dn.now (map (λ (e : World × Ages). e.0) old) run) where
     abbrev pub worlds : List World
     worlds = map (λ (e : World × Ages). e.0) old
 
@@ -99,7 +102,7 @@ module _ (reading : PageReading) (stands : Image → World → Type 0) where
         causes = causes_of served.passes.keeps served.run served.instants served.causes;
       };
       serial = serial_of served.run served.passes.follows;
-      ties = served.passes.ties;
+      records = records_of served.run served.passes.follows served.passes.ties;
     }
 
     -- the reply to one could not be said
@@ -144,7 +147,7 @@ module _ (reading : PageReading) (stands : Image → World → Type 0) where
               next.causes.within next.causes.counted);
         };
         serial = serial_of (so_far.run ++ next.entry ∷ []) both.follows;
-        ties = both.ties;
+        records = records_of (so_far.run ++ next.entry ∷ []) both.follows both.ties;
       }
 
   -- What a call starts from

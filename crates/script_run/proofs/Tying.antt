@@ -14,7 +14,7 @@ use Rattle.mdb_model.specs.Text.{text_of}
 use Rattle.mdb_model.specs.Runs.{Line, TakenLine, last_worlds}
 use Rattle.mdb_model.specs.Headline.{IsPrefix, texts_of}
 use Rattle.mdb_host.specs.Disk.{Disk, Keeps}
-use Rattle.db_kernel.specs.Outside.{Ties}
+use Rattle.open_database.specs.Outside.{Ties}
 use Rattle.script_run.specs.Along.{At, IsLine, AtReplyOf, AreTied}
 use Rattle.script_run.proofs.Texts.{IsPart, text_is_some, said_then, take_first}
 

@@ -9,7 +9,7 @@ use Rattle.mdb_model.specs.Runs.{Run, TakenLine}
 use Rattle.mdb_model.specs.Serial.{IsSerial}
 use Rattle.mdb_model.specs.Worlds.{World, created}
 use Rattle.mdb_host.specs.Disk.{Disk}
-use Rattle.db_kernel.specs.Outside.{page_reading, StandsFor}
+use Rattle.open_database.specs.Outside.{page_reading, StandsFor}
 
 -- the world of a new database, as the words ask for it
 abbrev pub new_world : (birth log_pages : ℕ) → (data_pages : List ℕ) → World

@@ -18,14 +18,15 @@ use Rattle.mdb_model.specs.Worlds.{World}
 use Rattle.mdb_model.specs.Runs.{Line, TakenLine, Run, last_worlds}
 use Rattle.mdb_model.specs.Serial.{IsSerial}
 use Rattle.mdb_model.specs.Text.{text_of}
-use Rattle.mdb_model.specs.Headline.{IsPrefix, HasSaid, IsPossible, Instant, IsCaused, AreCaused, KeepsRun, LineIs, AtReply, texts_of, lines_of}
+use Rattle.mdb_model.specs.Headline.{IsPrefix, HasSaid, IsPossible, Instant, IsCaused, AreCaused, KeepsRun, LineIs, AtReply, RecordsAreTied, texts_of, lines_of}
 use Rattle.mdb_model.specs.Agreement.{Ages}
 use Rattle.mdb_model.specs.declared.script.Reply.{Reply}
 use Rattle.mdb_model.specs.declared.status.Status.{Status}
 use Rattle.mdb_host.specs.Disk.{Disk, Keeps}
+use Rattle.standing.specs.WholeStanding.{pages_in, savepoint_in, commit_number_in}
 use Rattle.db_kernel.specs.Damages.{past_end_in}
-use Rattle.db_kernel.specs.Outside.{Ties}
-use Rattle.db_kernel.specs.Stretch.{LeavesOnly}
+use Rattle.open_database.specs.Outside.{Ties}
+use Rattle.open_database.specs.Stretch.{LeavesOnly}
 
 -- a moment, and how many calls on devices had failed by then
 abbrev pub instant : (clock faults : ℕ) → Instant
@@ -106,11 +107,12 @@ module _ (reading : PageReading) (stands : Image → World → Type 0) where
     pub fit : fits (last_worlds reading ws run)
     pub stand : LeavesOnly reading stands new (last_worlds reading ws run)
 
-  -- what a call keeps: its run, in which each transaction was answered as with nobody else, and
-  -- each image at the moment of a reply is tied as the line ties it
+  -- what a call keeps: its run, in which each transaction was answered as with nobody else, and the
+  -- restart record has the rows at the reply to each line that makes a savepoint
   pub record KeepsSerialRun (old new : Disk) (before now : ℕ) (from : List (World × Ages))
       (status : Status) (left_before left : Option (List ℕ)) : Type 0 where
     pub kept : KeepsRun reading new.said new.may_leave stands past_end_in status old.now new.now
         before now left_before left from
     pub serial : IsSerial kept.run
-    pub ties : AreTied old new (map (λ e. e.0) from) kept.run
+    pub records : RecordsAreTied reading new.said new.may_leave stands pages_in savepoint_in
+        commit_number_in old.now new.now (map (λ e. e.0) from) kept.run

@@ -13,7 +13,7 @@ use Rattle.mdb_host.specs.Disk.{Disk, IsThere}
 use Rattle.mdb_host.specs.Places.{device_at}
 use Rattle.creation.specs.Devices.{device_count}
 use Rattle.script_run.specs.Along.{KeepsSerialRun}
-use Rattle.db_kernel.specs.Outside.{page_reading, StandsFor}
+use Rattle.open_database.specs.Outside.{page_reading, StandsFor}
 
 -- of each start, by what a crash at the entry may leave: the promise of a call. Of the source are
 -- given the bytes that it tells before and after, where it tells them

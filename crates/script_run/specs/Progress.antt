@@ -12,13 +12,13 @@ use Rattle.mdb_model.specs.Runs.{Line}
 use Rattle.mdb_model.specs.Script.{Reads, is_skipped}
 use Rattle.mdb_model.specs.Worlds.{World}
 use Rattle.mdb_host.specs.Disk.{Disk}
-use Rattle.db_kernel.specs.declared.database.Database.{Database}
+use Rattle.open_database.specs.declared.database.Database.{Database}
 use Rattle.db_kernel.specs.Kept.{FitsWorlds}
 use Rattle.script_lines.specs.declared.lines.LineKind.{LineKind}
 use Rattle.script_lines.specs.declared.lines.LineKind.TheVariants.{Text, TooLong, End}
 use Rattle.script_run.specs.Along.{Taken, TakenWhole, Served}
 use Rattle.script_lines.specs.Reading.{Reading, HasRead, kept, weight_of}
-use Rattle.db_kernel.specs.Outside.{page_reading, StandsFor}
+use Rattle.open_database.specs.Outside.{page_reading, StandsFor}
 
 -- a line was done, and what answers it is said, or not to its end
 abbrev pub DoesLine : (old new : Disk) → (before now : ℕ) → List World → Line

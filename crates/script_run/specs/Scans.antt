@@ -23,11 +23,11 @@ use Rattle.mdb_model.specs.Worlds.{World}
 use Rattle.mdb_host.specs.Disk.{Disk}
 use Rattle.mdb_bytes.specs.Held.{next_row}
 use Rattle.session_rows.specs.Serving.{HasKeys}
-use Rattle.db_kernel.specs.declared.database.Database.{Database}
+use Rattle.open_database.specs.declared.database.Database.{Database}
 use Rattle.db_kernel.specs.Kept.{FitsWorlds, scanned_rows}
-use Rattle.db_kernel.specs.Outside.{page_reading, StandsFor}
-use Rattle.db_kernel.specs.Stretch.{LeavesOnly}
-use Rattle.db_kernel.specs.Working.{StandsForOneOf}
+use Rattle.open_database.specs.Outside.{page_reading, StandsFor}
+use Rattle.open_database.specs.Stretch.{LeavesOnly}
+use Rattle.open_database.specs.Stretch.{StandsForOneOf}
 use Rattle.script_run.specs.Speaking.{SaysWhile, row_text, items_text}
 
 -- the kernel fits these worlds, each image stands for one of them, and the rows that the session
@@ -36,8 +36,8 @@ pub record IsOpenScan (disk : Disk) (ws : List World) (database : Option Databas
     (session : Session) (table : Table) : Type 0 where
   pub fit : FitsWorlds database disk ws
   pub stand : LeavesOnly page_reading StandsFor disk ws
-  pub keys : HasKeys (scanned_rows database session)
-  pub few : length (rows_of (scanned_rows database session) table.0) + 1 < 2 ^ 64
+  pub keys : HasKeys (scanned_rows database disk session)
+  pub few : length (rows_of (scanned_rows database disk session) table.0) + 1 < 2 ^ 64
 
 -- this was said, and the kernel fits the worlds still, with the same rows
 pub record GoesOn (old new : Disk) (ws : List World) (before after : Option Database)
@@ -45,7 +45,7 @@ pub record GoesOn (old new : Disk) (ws : List World) (before after : Option Data
   pub says : SaysWhile old new text (StandsForOneOf ws)
   pub said : new.said new.now ≡ old.said old.now ++ text
   pub fit : FitsWorlds after new ws
-  pub same : scanned_rows after session ≡ scanned_rows before session
+  pub same : scanned_rows after new session ≡ scanned_rows before old session
 
 -- the row after the one key, which has the other key; where saying it failed, a part of it is said
 abbrev pub SaysNext : (old new : Disk) → List World → (before after : Option Database) → Session

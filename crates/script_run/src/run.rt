@@ -8,10 +8,10 @@ ghost use Rattle.mdb_model.specs.Script.{is_in_range};
 ghost use Rattle.mdb_model.specs.Worlds.{World};
 ghost use Rattle.mdb_host.specs.Disk.{Disk, Keeps};
 ghost use Rattle.db_kernel.specs.Kept.{IsSoundKernel, FitsWorlds, greatest_in};
-ghost use Rattle.db_kernel.specs.Stretch.{LeavesOnly, Completes};
+ghost use Rattle.open_database.specs.Stretch.{LeavesOnly, Completes};
 ghost use Rattle.script_run.specs.Calls.{EndsRun, RunPromise};
 ghost use Rattle.script_run.specs.Progress.{DoesLine, HandlesLine, IsLineText, is_end as no_line, weight_in};
-ghost use Rattle.db_kernel.specs.Outside.{page_reading, StandsFor};
+ghost use Rattle.open_database.specs.Outside.{page_reading, StandsFor};
 
 use crate::saying::{say_reply, say_scan};
 use db_kernel::kernel::Kernel;
@@ -22,9 +22,7 @@ use mdb_model::script::{Command, Refusal, Reply};
 use mdb_model::status::Status;
 use script_lines::{LineKind, LineReader};
 use std::alloc::Global;
-
-// Says all that answers a command. The numbers of the database have room left to grow in it, so
-// that the rows of a scan may be read after it.
+// Says all that answers a command.
 fn answer_command<H: Host>(
     kernel: &mut Kernel,
     host: &mut H,

@@ -7,11 +7,11 @@ ghost use Rattle.mdb_model.specs.Steps.{rows_of};
 ghost use Rattle.mdb_model.specs.Text.{line_of, item_words, reply_words, text_of};
 ghost use Rattle.mdb_model.specs.Worlds.{World};
 ghost use Rattle.mdb_host.specs.Disk.{Disk, Keeps};
-ghost use Rattle.db_kernel.specs.declared.database.Database.{Database};
+ghost use Rattle.open_database.specs.declared.database.Database.{Database};
 ghost use Rattle.db_kernel.specs.Kept.{IsSoundKernel, FitsWorlds, greatest_in, scanned_rows};
-ghost use Rattle.db_kernel.specs.Outside.{page_reading, StandsFor};
+ghost use Rattle.open_database.specs.Outside.{page_reading, StandsFor};
 ghost use Rattle.db_kernel.specs.Scanning.{FaultHasCause};
-ghost use Rattle.db_kernel.specs.Stretch.{LeavesOnly};
+ghost use Rattle.open_database.specs.Stretch.{LeavesOnly};
 ghost use Rattle.script_run.specs.Speaking.{Speaks};
 ghost use Rattle.script_run.specs.Scans.{IsOpenScan, SaysNext, SaysRows, SaysScan};
 
@@ -88,7 +88,7 @@ fn say_next<H: Host>(
         → FitsWorlds kernel.old.database (H.disk host.old) ws
         → LeavesOnly page_reading StandsFor (H.disk host.old) ws
         → SaysNext (H.disk host.old) (H.disk host.new) ws kernel.old.database kernel.new.database
-        session (scanned_rows kernel.old.database session) table after.old.items after.new.items
+        session (scanned_rows kernel.old.database (H.disk host.old) session) table after.old.items after.new.items
         result }
     ensures later { H.faults host.old ≤ H.faults host.new }
     ensures cause { IfOk result (λ next. FaultHasCause (H.faults host.old) (H.faults host.new)
@@ -126,7 +126,7 @@ fn say_rows<H: Host>(
     ensures says { H.tells → (ws : List World)
         → IsOpenScan (H.disk host.old) ws kernel.old.database session table
         → SaysRows (H.disk host.old) (H.disk host.new) (H.faults host.old) (H.faults host.new) ws
-        (rows_of (scanned_rows kernel.old.database session) table.0) kernel.new.database result }
+        (rows_of (scanned_rows kernel.old.database (H.disk host.old) session) table.0) kernel.new.database result }
     ensures later { H.faults host.old ≤ H.faults host.new }
     ensures say_cause { HasCause (H.say_faults host.old) (H.say_faults host.new) result }
 {
@@ -161,7 +161,7 @@ pub fn say_scan<H: Host>(
     ensures says { H.tells → (ws : List World)
         → IsOpenScan (H.disk host.old) ws kernel.old.database session table
         → SaysScan (H.disk host.old) (H.disk host.new) (H.faults host.old) (H.faults host.new) ws
-        (rows_of (scanned_rows kernel.old.database session) table.0) kernel.new.database result }
+        (rows_of (scanned_rows kernel.old.database (H.disk host.old) session) table.0) kernel.new.database result }
     ensures later { H.faults host.old ≤ H.faults host.new }
     ensures say_cause { HasCause (H.say_faults host.old) (H.say_faults host.new) result }
 {

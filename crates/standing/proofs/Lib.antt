@@ -1,8 +1,8 @@
 pub mod FirstBlocks
 pub mod FirstMaps
-pub mod RecordLaws
 pub mod WholeLaw
 pub mod LookLaws
+mod NamedDevices
 mod LookRows
 pub mod SlotBlocks
 pub mod LookSwitched

@@ -1,6 +1,6 @@
 -- What an image shows after a group was appended to the ring.
 --     look_appended      the look is as before, or has one commit more in both logs
-use Rattle.std.proofs.Common.{◌≡◌, ◌≢◌, ◌⊎◌, inl, inr, refl, sym, ap, ◌∙◌, subst, ℕ, zero, suc, ◌+◌, ◌<◌, ◌≤◌, cond, List, [], ◌∷◌, ◌++◌, get_or, length, map, Option, Some, None, ◌==◌, sum, arith, length-append}
+use Rattle.std.proofs.Common.{◌&&◌, ◌≡◌, ◌≢◌, ◌⊎◌, inl, inr, refl, sym, ap, ◌∙◌, subst, ℕ, zero, suc, ◌+◌, ◌<◌, ◌≤◌, cond, List, [], ◌∷◌, ◌++◌, get_or, length, map, Option, Some, None, ◌==◌, sum, arith, length-append}
 use Rattle.std.specs.Prelude.{option_and_then, if◌then◌else◌}
 use Rattle.std.proofs.lemmas.List.Sums.{sum_by-cons}
 use Rattle.mdb_model.specs.declared.change.Commit.{Commit}
@@ -8,6 +8,7 @@ use Rattle.mdb_model.specs.declared.fault.Device.{Device}
 use Rattle.mdb_model.specs.declared.fault.Device.TheVariants.{Data, Log, Medium}
 use Rattle.mdb_model.specs.declared.name.Name.{Name}
 use Rattle.mdb_model.specs.Images.{Image, size_of, byte_at}
+use Rattle.mdb_model.specs.Script.{is_medium}
 use Rattle.mdb_model.specs.Sessions.{group_bytes}
 use Rattle.mdb_bytes.specs.declared.log_info.LogInfo.{LogInfo}
 use Rattle.mdb_bytes.specs.declared.restart_record.RestartRecord.{RestartRecord}
@@ -89,7 +90,7 @@ module _ (old new : Image) (size : ℕ) (name : Name) (end last : ℕ) (c : Comm
   info_same = λ i. option_and_then log_info_of (greater (slot_same First i) (slot_same Second i))
 
   media_same : open_medium new ≡ open_medium old
-  media_same = λ i medium. if byte_at (medium_same medium i) slot_len == open_gate then medium_same medium i else None
+  media_same = λ i medium. if is_medium medium && byte_at (medium_same medium i) slot_len == open_gate then medium_same medium i else None
 
   blocks_same : (sizes : List ℕ) → block_at sizes new ≡ block_at sizes old
   blocks_same sizes = λ i b. page_agrees old new (Data (place 1 sizes b).0) (place 1 sizes b).1 (data_same (place 1 sizes b).0) i

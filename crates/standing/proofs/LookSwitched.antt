@@ -1,11 +1,12 @@
 -- What an image shows after a switch of the restart record's slots.
 --     look_switched      the look is as before, or the one with the next record in force
-use Rattle.std.proofs.Common.{◌≡◌, ◌≢◌, ◌⊎◌, inl, inr, refl, sym, ap, ◌∙◌, subst, ℕ, ◌+◌, ◌%◌, ◌≤◌, true, false, cond, List, [], ◌∷◌, get_or, map, Option, Some, None, ◌==◌, sum}
+use Rattle.std.proofs.Common.{◌&&◌, ◌≡◌, ◌≢◌, ◌⊎◌, inl, inr, refl, sym, ap, ◌∙◌, subst, ℕ, ◌+◌, ◌%◌, ◌≤◌, true, false, cond, List, [], ◌∷◌, get_or, map, Option, Some, None, ◌==◌, sum}
 use Rattle.std.specs.Prelude.{option_and_then, if◌then◌else◌}
 use Rattle.std.specs.List.{AllByRecursion}
 use Rattle.mdb_model.specs.declared.fault.Device.TheVariants.{Log, Medium}
 use Rattle.mdb_model.specs.declared.name.Name.{Name}
 use Rattle.mdb_model.specs.Images.{Image, byte_at}
+use Rattle.mdb_model.specs.Script.{is_medium}
 use Rattle.mdb_bytes.specs.declared.log_info.LogInfo.{LogInfo}
 use Rattle.mdb_bytes.specs.declared.restart_record.RestartRecord.{RestartRecord}
 use Rattle.mdb_bytes.specs.declared.restart_record.SnapshotEntry.{SnapshotEntry}
@@ -36,7 +37,7 @@ module _ (old new : Image) (next : RestartRecord) (set : ℕ → Type 0) (change
       let media : (medium : ℕ) → new (Medium medium) ≡ old (Medium medium) = λ medium. change.others (Medium medium) (λ i less e. absurd cc) in
       let info : log_info_in new ≡ log_info_in old = log_info_same old new log in
       let opened : open_medium new ≡ open_medium old =
-      λ i medium. if byte_at (media medium i) slot_len == open_gate then media medium i else None in
+      λ i medium. if is_medium medium && byte_at (media medium i) slot_len == open_gate then media medium i else None in
       let kept : option_and_then (map_of_record new) (record_in new) ≡ map_of_record old next =
       ap (option_and_then (map_of_record new)) is ∙ of_record old new next set change unused.rec in
       let snapshots : snapshot_maps new (record_in new) ≡ snapshot_maps old (Some next) =

@@ -1,6 +1,5 @@
--- An image that stands for a world while rows stand in the log alone, stands for it by the whole definition.
---     stands_whole      the law
---     new_stands      so does the image that the creation leaves, at every stage
+-- What the creation of a database leaves stands for a world.
+--     new_stands      the law
 --     same_look      images that show the same stand for the same worlds
 use Rattle.std.proofs.Common.{◌≡◌, ◌≢◌, inl, inr, refl, sym, ap, subst, ◌∙◌, ℕ, zero, suc, ◌+◌, ◌-◌, ◌*◌, ◌<◌, ◌≤◌, ◌==◌, true, false, cond, ◌&&◌, ◌||◌, List, [], ◌∷◌, ◌++◌, length, map, sum, Some, None, arith}
 use Rattle.std.specs.Prelude.{IsTrue, MatchOption, not, option_and_then, is_some, filter_map}
@@ -33,7 +32,7 @@ use Rattle.mdb_bytes.proofs.FirstPages.{first_pages, well_formed, standing_is, c
 use Rattle.mdb_bytes.proofs.GroupLaw.{group_is_long}
 use Rattle.mdb_bytes.proofs.LogLaw.{is_log-log_from}
 use Rattle.volume_disk.specs.Blocks.{block_at}
-use Rattle.standing.specs.Standing.{Creation, Site, HasRecords, Stands, at_rest, creation_at, ring_of}
+use Rattle.standing.specs.Standing.{Site, HasRecords, IsNew, at_rest, creation_at, ring_of}
 use Rattle.standing.specs.Looks.{Look, look, record_in, log_info_in, record_of, log_info_of, open_medium, map_of_record, map_under, snapshot_maps, saved_after, redo_after}
 use Rattle.standing.specs.WholeStanding.{LookStands, StandsWhole, MapIsInOrder, ShareNoBlock, AreaIsLive, IsSnapshot, MediumStands, RoomStands, HaveRoom, blocks_in_use}
 use Rattle.standing.proofs.FirstMaps.{first_map, map_is}
@@ -228,8 +227,10 @@ enough_blocks : (n used blocks : ℕ) → n ≡ 0 → used ≡ 2 → 512 ≤ blo
 enough_blocks n used blocks none two least = subst (λ (k : ℕ). 2 + used + (k + 2) * converter_pages blocks ≤ blocks) (sym none) (omega (arith, two, least))
 
 -- what the creation leaves stands for the new world
-pub new_stands : (image : Image) (site : Site) → HasRecords site image → ring_byte (ring_of site) image 0 ≢ open_gate → StandsWhole image (at_rest (creation_at site) [])
-new_stands image site records closed =
+pub new_stands : (image : Image) (site : Site) → IsNew site image → StandsWhole image (at_rest (creation_at site) [])
+new_stands image site new =
+    let records = new.records in
+    let closed = new.log in
     let ring : 0 < ring_of site = omega (arith, records.limits.least) in
     let least = records.limits.volumes.least in
     let in_use : blocks_in_use (shown image site [] records closed ring) ≡ 2 = simp members refl in
@@ -241,7 +242,3 @@ new_stands image site records closed =
       blocks = enough_blocks (len (empty {K = ℕ} {X = Snapshot} {R = nat_cmp})) (blocks_in_use (shown image site [] records closed ring)) (sum site.volumes) no_snapshots in_use least;
     })
     tt
-
--- so where an image stands for a new world while rows stand in the log, it stands for it
-pub fresh_stands : (image : Image) (made : Creation) → Stands image (at_rest made []) → StandsWhole image (at_rest made [])
-fresh_stands image made s = subst (StandsWhole image) (sym s.is) (new_stands image s.site s.records s.log)

@@ -17,6 +17,7 @@ use Rattle.mdb_model.specs.declared.script.BackupKind.{BackupKind}
 use Rattle.mdb_model.specs.declared.script.BackupKind.TheVariants.{OfPages, OfLog}
 use Rattle.mdb_model.specs.Backups.{same_name}
 use Rattle.mdb_model.specs.Images.{Image, size_of, byte_at}
+use Rattle.mdb_model.specs.Script.{is_medium}
 use Rattle.mdb_bytes.specs.declared.medium_pages.MediumHeader.{MediumHeader}
 use Rattle.mdb_bytes.specs.declared.log_info.LogInfo.{LogInfo}
 use Rattle.mdb_bytes.specs.declared.restart_record.RestartRecord.{RestartRecord}
@@ -56,10 +57,11 @@ log_info_in image = option_and_then log_info_of (in_force image log_slots)
 
 -- Media. One whose gate is closed is blank, whatever it holds.
 
--- the bytes of a medium whose gate is open
+-- the bytes of a medium, of 1 to 99, whose gate is open
 abbrev pub open_medium : Image → ℕ → Option (List ℕ)
 open_medium image medium =
-    if byte_at (image (Medium medium)) slot_len == open_gate then image (Medium medium) else None
+    if is_medium medium && byte_at (image (Medium medium)) slot_len == open_gate
+    then image (Medium medium) else None
 
 -- the header that bytes spell
 unfoldable pub header_of : List ℕ → Option MediumHeader

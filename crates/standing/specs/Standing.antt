@@ -1,11 +1,11 @@
--- When an image stands for a world, as long as rows stand in the log alone: its records and its
--- pages are still those that the creation of a database wrote, and all commits stand in its log.
+-- What the creation of a database leaves.
 --     Creation      what a database is named and how large it is
 --     at_rest      a world that is off, of these commits
 --     Site      what a database was created with
+--     AreVolumes, IsSite      the limits of it
 --     HasRecords      the devices are there, with what the creation wrote on them
---     Stands      an image stands for a world
-use Rattle.std.specs.Prelude.{◌≡◌, ℕ, ◌+◌, ◌*◌, ◌^◌, ◌<◌, ◌≤◌, List, length, get_or, sum, None, Some}
+--     IsNew      and no commit stands in the log yet
+use Rattle.std.specs.Prelude.{◌≡◌, ◌≢◌, ℕ, ◌+◌, ◌*◌, ◌^◌, ◌<◌, ◌≤◌, List, length, get_or, sum, None, Some}
 use Rattle.mdb_model.specs.declared.change.Commit.{Commit}
 use Rattle.mdb_model.specs.declared.fault.Device.TheVariants.{Data, Log, Medium}
 use Rattle.mdb_model.specs.declared.name.Name.{Name}
@@ -13,7 +13,7 @@ use Rattle.mdb_model.specs.Images.{Image, size_of}
 use Rattle.mdb_model.specs.History.{no_history}
 use Rattle.mdb_model.specs.Worlds.{World, created}
 use Rattle.mdb_bytes.specs.Firsts.{first_name, first_restart, first_log_info, first_block, first_root_block}
-use Rattle.mdb_bytes.specs.LogReading.{IsLog, log_bytes}
+use Rattle.mdb_bytes.specs.Groups.{open_gate}
 use Rattle.mdb_bytes.specs.Rings.{ring_byte, ring_size}
 use Rattle.gate_slots.specs.declared.body.SlotBody.TheVariants.{Restart, Log as LogBody}
 use Rattle.gate_slots.specs.declared.place.SlotPlace.{SlotPlace}
@@ -82,11 +82,7 @@ pub record HasRecords (site : Site) (image : Image) : Type 0 where
   pub pages : (block : ℕ) → 2 ≤ block → block ≤ first_root_block (sum site.volumes)
       → block_at site.volumes image block ≡ first_block (sum site.volumes) block
 
--- The world is the one of these commits, which stand in the log from its first position on,
--- numbered from 1, and have fewer bytes than the ring.
-pub record Stands (image : Image) (w : World) : Type 0 where
-  pub site : Site
-  pub is : w ≡ at_rest (creation_at site) w.history.commits
+-- a new database: the log begins with no open gate
+pub record IsNew (site : Site) (image : Image) : Type 0 where
   pub records : HasRecords site image
-  pub log : IsLog (ring_byte (ring_of site) image) (first_name site.birth) 0 0 w.history.commits
-  pub room : log_bytes w.history.commits < ring_of site
+  pub log : ring_byte (ring_of site) image 0 ≢ open_gate

@@ -1,18 +1,19 @@
 //! What holds of when an image stands for a world. The functions do nothing: their contracts are
 //! the laws.
-ghost use Rattle.std.specs.Prelude.{◌≡◌, ◌≢◌, ℕ, [], Bool, IsTrue, Some};
+ghost use Rattle.std.specs.Prelude.{◌≡◌, ◌≤◌, ℕ, [], Bool, IsTrue, Some, length};
+ghost use Rattle.mdb_model.specs.declared.fault.Device.{Device};
 ghost use Rattle.mdb_model.specs.Images.{Image};
 ghost use Rattle.mdb_model.specs.Worlds.{World};
+ghost use Rattle.mdb_host.specs.Disk.{SameSizes};
+ghost use Rattle.mdb_host.specs.Places.{IsNamed};
 ghost use Rattle.mdb_bytes.specs.declared.restart_record.RestartRecord.{RestartRecord};
-ghost use Rattle.mdb_bytes.specs.Groups.{open_gate};
-ghost use Rattle.mdb_bytes.specs.Rings.{ring_byte};
 ghost use Rattle.volume_disk.specs.Blocks.{Writes};
-ghost use Rattle.standing.specs.Standing.{Site, HasRecords, ring_of, at_rest, creation_at};
+ghost use Rattle.standing.specs.Standing.{Site, IsNew, at_rest, creation_at};
 ghost use Rattle.standing.specs.Looks.{look, record_in, IsUnused};
 ghost use Rattle.standing.specs.WholeStanding.{StandsWhole};
 
 /// What an image stands for follows from what it shows. So blocks that no kept map uses may hold
-/// anything.
+/// anything, and so may devices that are none of a database, as long as they keep their sizes.
 pub fn showing_is_enough()
     ensures look { (a b : Image) (w : World) → look a ≡ look b → StandsWhole a w → StandsWhole b w }
     ensures unused { (old new : Image) (r : RestartRecord) (set : ℕ → Bool) (w : World)
@@ -20,12 +21,15 @@ pub fn showing_is_enough()
         → record_in old ≡ Some r → record_in new ≡ Some r
         → IsUnused (look old) r (λ block. IsTrue (set block)) → StandsWhole old w
         → StandsWhole new w }
+    ensures named { (a b : Image) (r : RestartRecord) (w : World) → record_in a ≡ Some r
+        → length r.volumes.items ≤ 8 → SameSizes a b
+        → ((device : Device) → IsNamed device → b device ≡ a device) → StandsWhole a w
+        → look b ≡ look a }
 {}
 
 /// An image with the records and blocks of a creation, and a log without a commit, stands for the
 /// new database.
 pub fn a_new_database_stands()
-    ensures { (image : Image) (site : Site) → HasRecords site image
-        → ring_byte (ring_of site) image 0 ≢ open_gate
+    ensures { (image : Image) (site : Site) → IsNew site image
         → StandsWhole image (at_rest (creation_at site) []) }
 {}

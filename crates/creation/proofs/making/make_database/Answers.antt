@@ -1,8 +1,8 @@
-use Rattle.std.proofs.Common.{◌≤◌, ℕ, []}
+use Rattle.std.proofs.Common.{◌≤◌, ℕ}
 use Rattle.mdb_host.proofs.Moments.{on_ok}
 use Rattle.volume_disk.specs.Blocks.{Writes}
 use Rattle.creation.specs.Making.{Each, IsLogged}
-use Rattle.standing.specs.Standing.{Site, IsSite, Stands, at_rest, creation_at}
+use Rattle.standing.specs.Standing.{Site, IsSite, IsNew}
 use Rattle.creation.proofs.Fresh.{any_goes, any_on}
 use Rattle.creation.proofs.Stages.{area_of, all_written, log_within, data_within}
 use Rattle.creation.proofs.making.make_database.Goals as goal
@@ -41,8 +41,8 @@ returns-clause-made g c =
     on_ok c.open_restart_record.result
     (g.H.Host.tells → (log_pages : ℕ) → IsSite (record { birth = c.args.birth; volumes = c.args.volumes.now.items; log_pages = log_pages })
     → Each (g.H.Host.disk c.open_log_info.new.host) (IsLogged (record { birth = c.args.birth; volumes = c.args.volumes.now.items; log_pages = log_pages }))
-    → Each (g.H.Host.disk c.open_restart_record.new.host) (λ image. Stands image (at_rest (creation_at (record { birth = c.args.birth; volumes = c.args.volumes.now.items; log_pages = log_pages })) [])))
-    (g.H.Host.tells → Each (g.H.Host.disk c.open_restart_record.new.host) (λ image. Stands image (at_rest (creation_at site) [])))
+    → Each (g.H.Host.disk c.open_restart_record.new.host) (IsNew (record { birth = c.args.birth; volumes = c.args.volumes.now.items; log_pages = log_pages })))
+    (g.H.Host.tells → Each (g.H.Host.disk c.open_restart_record.new.host) (IsNew site))
     (λ stands told. stands told c.args.log_pages c.requires.site (c.in_ok-open_log_info.ensures.logged told c.args.volumes.now.items c.requires.site.volumes (all_written (g.H.Host.disk c.make_devices.new.host) (g.H.Host.disk c.write_pages.new.host) (record { birth = c.args.birth; volumes = c.args.volumes.now.items; log_pages = c.args.log_pages }) c.new-area.result c.new-area.ensures c.requires.site.volumes (c.in_ok-make_devices.ensures.made told c.args.birth) (c.write_pages.ensures.goes told) (c.in_ok-write_pages.ensures.pages told))))
     c.open_restart_record.ensures.stands
 

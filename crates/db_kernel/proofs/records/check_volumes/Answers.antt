@@ -27,3 +27,6 @@ returns-clause-blocks g c =
 
 pub returns-clause-fits : goal.returns-clause-fits
 returns-clause-fits g c told volume inside = c.loop-volume.invariant.fits told volume (omega (arith, inside, c.loop-volume-test.false, c.len-volume-end.ensures.value))
+
+pub returns-clause-least : goal.returns-clause-least
+returns-clause-least g c volume inside = c.loop-volume.invariant.least volume (omega (arith, inside, c.loop-volume-test.false, c.len-volume-end.ensures.value))

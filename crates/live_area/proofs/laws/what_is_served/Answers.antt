@@ -1,5 +1,5 @@
 use Rattle.live_area.proofs.StoodFor.{rows_have_room, saved_commits}
-use Rattle.live_area.proofs.Served.{ring_served, blocks_served, name_served, last_served, saved_served, unsaved_served}
+use Rattle.live_area.proofs.Served.{ring_served, blocks_served, small_served, name_served, last_served, saved_served, unsaved_served}
 use Rattle.live_area.proofs.KeyedRows.{keys_served}
 use Rattle.live_area.proofs.laws.what_is_served.Goals as goal
 
@@ -10,6 +10,10 @@ returns-clause-ring g c slots r s ring d w serves =
 pub returns-clause-blocks : goal.returns-clause-blocks
 returns-clause-blocks g c slots r s ring d w serves =
     blocks_served g.H.Host.tells slots r s ring (g.H.Host.disk d) w serves (g.H.Host.disk d).seen (g.met.H.Host.seen_left d serves.service.told)
+
+pub returns-clause-small : goal.returns-clause-small
+returns-clause-small g c slots r s ring d w serves =
+    small_served g.H.Host.tells slots r s ring (g.H.Host.disk d) w serves (g.H.Host.disk d).seen (g.met.H.Host.seen_left d serves.service.told)
 
 pub returns-clause-name : goal.returns-clause-name
 returns-clause-name g c slots r s ring d w serves =

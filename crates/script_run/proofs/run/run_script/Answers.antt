@@ -4,7 +4,7 @@ use Rattle.mdb_model.specs.Runs.{last_worlds}
 use Rattle.db_kernel.specs.declared.kernel.Kernel.{Kernel}
 use Rattle.mdb_model.specs.Agreement.{Ages}
 use Rattle.mdb_model.specs.Worlds.{World}
-use Rattle.db_kernel.specs.declared.database.Database.{Database}
+use Rattle.open_database.specs.declared.database.Database.{Database}
 use Rattle.db_kernel.specs.Kept.{IsSoundKernel, FitsWorlds, greatest_in}
 use Rattle.db_kernel.proofs.Fitting.{fits_off, sound_off}
 use Rattle.script_run.specs.Progress.{IsLineText, weight_in, Progress, HandlesLine}
@@ -12,7 +12,7 @@ use Rattle.script_run.proofs.Calls.{memory_keeps}
 use Rattle.script_run.proofs.Progressing.{weighs, progress_first, progress_turned, ends_done, ends_script, ends_limit, ends_say}
 use Rattle.script_run.proofs.Turns.{start_stand, start_rest, start_serial}
 use Rattle.script_run.proofs.run.run_script.Goals as goal
-use Rattle.db_kernel.specs.Outside.{page_reading, StandsFor}
+use Rattle.open_database.specs.Outside.{page_reading, StandsFor}
 
 pub returns-in_default-clause-promise : goal.returns-in_default-clause-promise
 returns-in_default-clause-promise g c told = memory_keeps (g.H.Host.disk c.args.host.now) (g.H.Host.faults c.args.host.now) (g.S.Source.left c.args.source.now)

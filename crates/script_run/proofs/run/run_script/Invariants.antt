@@ -1,11 +1,12 @@
 use Rattle.std.proofs.Common.{◌+◌, ◌-◌, ◌*◌, ◌^◌, ◌≤◌, List}
 use Rattle.mdb_host.specs.Disk.{Keeps}
 use Rattle.mdb_model.specs.Worlds.{World}
-use Rattle.db_kernel.specs.Kept.{AreOff, IsSoundKernel, greatest_in}
-use Rattle.db_kernel.specs.Stretch.{LeavesOnly}
+use Rattle.db_kernel.specs.Kept.{IsSoundKernel, greatest_in}
+use Rattle.open_database.specs.Serving.{AreOff}
+use Rattle.open_database.specs.Stretch.{LeavesOnly}
 use Rattle.script_run.specs.Progress.{Progress}
 use Rattle.script_run.proofs.run.run_script.Given as goal
-use Rattle.db_kernel.specs.Outside.{page_reading, StandsFor}
+use Rattle.open_database.specs.Outside.{page_reading, StandsFor}
 
 abbrev pub invariant-loop-count : goal.invariant-loop-count
 invariant-loop-count g l = record {

@@ -9,7 +9,7 @@ returns-in_err-say_row-in-Row-clause-says g c told ws fit stand =
     let d2 = g.H.Host.disk c.say_row.new.host in
     let before = c.args.kernel.now.database in
     let after = c.scan_next.new.self.database in
-    next_err d0 d2 ws before after c.args.session (scanned_rows before c.args.session) c.args.table c.args.after.now.items c.args.after.now.items c.from_residual.result c.from_residual.ensures.0
+    next_err d0 d2 ws before after c.args.session (scanned_rows before d0 c.args.session) c.args.table c.args.after.now.items c.args.after.now.items c.from_residual.result c.from_residual.ensures.0
     (row_cut d0 d1 (c.in-Row.ensures.takes.keeps told) ws before after c.args.session c.args.table c.args.after.now.items c.scan_next.new.key.items c.scan_next.new.value.items d2
     (c.in-Row.ensures.reads told ws fit stand) (c.say_row.ensures.speaks told))
 

@@ -39,7 +39,7 @@ returns-in_err-say_next-clause-says g c told ws opened =
     let so = c.loop-rows.invariant.said told ws opened in
     let stand = stand_now ws before session table d0 d1 d2 database after c.loop-rows.rows from so in
     let says = next_says ws before session table d0 d1 d2 database after c.loop-rows.rows from so c.say_next.new.after.items (Err c.in_err-say_next.field-0.0) (c.in_err-say_next.ensures.says told ws so.fit stand) in
-    rows_cut ws (rows_of (scanned_rows before session) table.0) d0 d2 (g.H.Host.faults c.args.host.now) (g.H.Host.faults c.say_next.new.host) after c.from_residual.result c.from_residual.ensures.0
+    rows_cut ws (rows_of (scanned_rows before d0 session) table.0) d0 d2 (g.H.Host.faults c.args.host.now) (g.H.Host.faults c.say_next.new.host) after c.from_residual.result c.from_residual.ensures.0
     (cut_row ws before session table d0 d1 d2 database after c.loop-rows.rows from so says)
 
 pub loop-rows-preserved : goal.loop-rows-preserved
@@ -63,7 +63,7 @@ loop-rows-preserved g c =
           let so = inv.said told ws opened in
           let stand = stand_now ws before session table d0 d1 d2 database after c.loop-rows.rows from so in
           let row = next_says ws before session table d0 d1 d2 database after c.loop-rows.rows from so key (Ok Row)
-          (subst (λ (n : Next). SaysNext d1 d2 ws database after session (scanned_rows database session) table from key (Ok n)) c.in-Row.is (c.in_ok-say_next.ensures.says told ws so.fit stand)) in
+          (subst (λ (n : Next). SaysNext d1 d2 ws database after session (scanned_rows database d1 session) table from key (Ok n)) c.in-Row.is (c.in_ok-say_next.ensures.says told ws so.fit stand)) in
           said_more ws before session table d0 d1 d2 database after c.loop-rows.rows from so key row.0 row.1;
       faults = omega (arith, inv.faults, c.say_next.ensures.later);
       say_faults = omega (arith, inv.say_faults, c.say_next.ensures.say_cause.later);
@@ -84,7 +84,7 @@ returns-in-End-clause-says g c told ws opened =
     let so = c.loop-rows.invariant.said told ws opened in
     let stand = stand_now ws before session table d0 d1 d2 database after c.loop-rows.rows from so in
     let none = next_says ws before session table d0 d1 d2 database after c.loop-rows.rows from so key (Ok End)
-    (subst (λ (n : Next). SaysNext d1 d2 ws database after session (scanned_rows database session) table from key (Ok n)) c.in-End.is (c.in_ok-say_next.ensures.says told ws so.fit stand)) in
+    (subst (λ (n : Next). SaysNext d1 d2 ws database after session (scanned_rows database d1 session) table from key (Ok n)) c.in-End.is (c.in_ok-say_next.ensures.says told ws so.fit stand)) in
     ended_whole ws before session table d0 d1 d2 database after c.loop-rows.rows from so (g.H.Host.faults c.args.host.now) (g.H.Host.faults c.say_next.new.host) none.0 none.1
 
 pub returns-in-Fault-clause-says : goal.returns-in-Fault-clause-says
@@ -105,7 +105,7 @@ returns-in-Fault-clause-says g c told ws opened =
     let so = c.loop-rows.invariant.said told ws opened in
     let stand = stand_now ws before session table d0 d1 d2 database after c.loop-rows.rows from so in
     let fault = next_says ws before session table d0 d1 d2 database after c.loop-rows.rows from so key (Ok (Fault c.in-Fault.reply))
-    (subst (λ (n : Next). SaysNext d1 d2 ws database after session (scanned_rows database session) table from key (Ok n)) c.in-Fault.is (c.in_ok-say_next.ensures.says told ws so.fit stand)) in
+    (subst (λ (n : Next). SaysNext d1 d2 ws database after session (scanned_rows database d1 session) table from key (Ok n)) c.in-Fault.is (c.in_ok-say_next.ensures.says told ws so.fit stand)) in
     let cause = subst (λ (reply : Reply). FaultHasCause f1 f2 after (Fault reply)) fault.0 (subst (λ (n : Next). FaultHasCause f1 f2 after n) c.in-Fault.is c.in_ok-say_next.ensures.cause) in
-    subst (λ (reply : Reply). HasSaidRows d0 d2 f0 f2 ws (rows_of (scanned_rows before session) table.0) after c.loop-rows.rows reply) (sym fault.0)
+    subst (λ (reply : Reply). HasSaidRows d0 d2 f0 f2 ws (rows_of (scanned_rows before d0 session) table.0) after c.loop-rows.rows reply) (sym fault.0)
     (ended_failed ws before session table d0 d1 d2 database after c.loop-rows.rows from so f0 f2 (rose_since f0 f1 f2 c.loop-rows.invariant.faults cause.0) cause.1 fault.1)

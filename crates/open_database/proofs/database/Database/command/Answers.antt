@@ -12,9 +12,9 @@ use Rattle.open_database.specs.Refusing.{KeepsDatabase}
 use Rattle.open_database.specs.Replies.{IsInside}
 use Rattle.open_database.specs.Serving.{FitsOpen, AreOff, open_state}
 use Rattle.open_database.specs.Stretch.{Completes}
-use Rattle.open_database.specs.Taking.{DoesLine}
+use Rattle.open_database.specs.Taking.{CanAskFor, DoesLine}
 use Rattle.open_database.proofs.AnyLine.{takes_open, takes_still, takes_done, takes_saved, does_line, does_close, on_reply}
-use Rattle.open_database.proofs.OtherLines.{killed_line, state_line, unbuilt_line}
+use Rattle.open_database.proofs.OtherLines.{killed_line, state_line, unbuilt_line, unbuilt_does}
 use Rattle.open_database.proofs.RowLines.{keeps_itself}
 use Rattle.open_database.proofs.StateLines.{on_one}
 use Rattle.open_database.proofs.database.Database.command.Goals as goal
@@ -110,6 +110,10 @@ returns-in-ScanTable-clause-does g c stage told ws fit =
     subst (λ (line : Command). DoesLine g.H.Host.tells d d ws line c.scan.new.self (Ok c.scan.result)) (sym c.in-ScanTable.is)
     (c.scan.ensures.does told ws fit)
 
+pub returns-in-ScanTable-clause-can_ask : goal.returns-in-ScanTable-clause-can_ask
+returns-in-ScanTable-clause-can_ask g c told ws fit =
+    subst (λ (line : Command). CanAskFor line c.scan.new.self (g.H.Host.disk c.args.host.now)) (sym c.in-ScanTable.is) (c.scan.ensures.can_scan told ws fit)
+
 pub returns-in-RollbackWork-clause-takes : goal.returns-in-RollbackWork-clause-takes
 returns-in-RollbackWork-clause-takes g c =
     takes_still g.H.Host.tells (g.H.Host.disk c.args.host.now) (g.H.Host.faults c.args.host.now) c.args.self.now c.rollback.new.self c.rollback.result c.rollback.ensures.sound c.rollback.ensures.numbers c.rollback.ensures.refused c.rollback.ensures.inside
@@ -173,7 +177,6 @@ returns-in-TaskSavepoint-clause-does g c stage told ws fit =
     let d = g.H.Host.disk c.args.host.now in
     let now = c.args.self.now in
     let unbuilt : is_built c.args.line.now ≡ false = search rules in
-    let same : DoesLine g.H.Host.tells d d ws c.args.line.now now (Ok (Refused Syntax)) ≡ Completes page_reading StandsFor d d ws (Some c.args.line.now) (refused Syntax) (FitsOpen g.H.Host.tells now d) = search rules in
-    subst (λ (X : Type 0). X) (sym same)
+    unbuilt_does g.H.Host.tells d ws c.args.line.now now unbuilt
     (on_one (λ vs. Completes page_reading StandsFor d d vs (Some c.args.line.now) (refused Syntax) (FitsOpen g.H.Host.tells now d)) ws fit.w fit.is
     (unbuilt_line d fit.w c.args.line.now (FitsOpen g.H.Host.tells now d) unbuilt fit.serves.area.stand (record { w = fit.w; is = refl; serves = fit.serves })))

@@ -5,7 +5,6 @@ use Rattle.mdb_model.specs.Tables.{Tables}
 use Rattle.mdb_model.specs.Worlds.{World}
 use Rattle.session_rows.specs.Replies.{scan_answer, IsOfSession}
 use Rattle.session_rows.specs.Scan.{seen_rows}
-use Rattle.session_rows.specs.Serving.{HasKeys}
 use Rattle.space_rule.specs.Spaces.{known_costs}
 use Rattle.store_rows.specs.StoredRows.{stored_rows}
 use Rattle.open_database.specs.declared.database.Database.{Database}
@@ -30,7 +29,3 @@ returns-clause-does g c told ws fit =
     (counted_read fit.w (ScanTable c.args.session c.args.table) answer rows call.new.transactions (known_costs old.space)
     (λ after entry. c.a_read_leaves_it_counted.ensures.table (known_costs old.space) fit.w after c.args.session c.args.table answer c.requires.session inside fit.serves.counted entry)
     (call.ensures.answered rows fit.w is_served)))
-
-pub returns-clause-keyed : goal.returns-clause-keyed
-returns-clause-keyed g c told ws fit =
-    c.open_scan.ensures.keyed (stored_rows c.args.self.now.area.store (g.H.Host.disk c.args.host.now).seen) (subst HasKeys (sym fit.serves.area.all_set) fit.serves.keys)
