@@ -106,7 +106,7 @@ impl Kernel {
             Ok(true) => Next::Row,
             Ok(false) => Next::End,
             Err(fault) => {
-                self.database = None;
+                turn_off(&mut self.database);
                 Next::Fault(Reply::Refused(refusal_of(fault)))
             }
         }
@@ -180,12 +180,12 @@ impl Kernel {
         };
         match database.command(alloc, host, line) {
             Ok(reply) if closes_database(line) => {
-                self.database = None;
+                turn_off(&mut self.database);
                 reply
             }
             Ok(reply) => reply,
             Err(fault) => {
-                self.database = None;
+                turn_off(&mut self.database);
                 Reply::Refused(refusal_of(fault))
             }
         }
@@ -215,6 +215,15 @@ impl Kernel {
             Err(refusal) => Reply::Refused(refusal),
         }
     }
+}
+
+// Drops the database. It has the room for what it drops to itself, since it is cleared at each call.
+#[cold]
+#[inline(never)]
+fn turn_off(database: &mut Option<Database>)
+    ensures { database.new ≡ None }
+{
+    *database = None;
 }
 
 // How a fault of pages is answered.

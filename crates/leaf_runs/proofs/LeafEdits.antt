@@ -31,7 +31,7 @@ use Rattle.sorted_places.proofs.Sorted.{put-gap, where_key-at, where_key-gap, fi
 use Rattle.leaf_runs.specs.Leaves.{key_of_row}
 use Rattle.leaf_runs.specs.Edits.{with_rows, without, IsTaken, IsInserted, IsPut, IsLeafNamed}
 use Rattle.leaf_runs.proofs.RowLists.{t_left, t_right, t_both, from_true, to_true, is_less, below_right, below_through, sorted_left, sorted_right, put-back}
-use Rattle.leaf_runs.proofs.LeafLaw.{entry_of, head_for, IsLeafPage, leaf_page_of, page_leaf_of, rows_id, row_ok, rows_used, leaf_spells, spelled_leaf}
+use Rattle.leaf_runs.proofs.LeafLaw.{entry_of, head_for, IsLeafPage, leaf_page_of, page_leaf_of, rows_id, row_ok, rows_used, leaf_spells, spelled_leaf, leaf_head_is}
 use Rattle.leaf_runs.proofs.Places.{some_same}
 use Rattle.leaf_runs.proofs.LeafReads.{as_pairs, found_at, no_row, no_value, count_is, entry_is}
 
@@ -90,6 +90,11 @@ taken_at old new leaf key at there has b =
       edited old new leaf p (remove leaf.rows at) (subst (Becomes old new) entries b) (remove_ok leaf.rows at p.keeps.rows) (subst (λ (rs : List Row). T (is_sorted by_bytes rs)) same (without_up key leaf.rows p.keeps.up))
           ∙ ap (λ (rs : List Row). Some (with_rows leaf leaf.next rs)) (sym same),
     )
+
+-- the same by what a removal answers
+pub taken_by : (taken : Bool) (old new : List ℕ) (leaf : RowLeaf) (key : List ℕ) (at : ℕ) → row_leaf_of old ≡ Some leaf → HasKey (entries_of old) key at → taken ≡ true → Becomes old new (remove (entries_of old) at) → IsTaken taken leaf key new
+taken_by true old new leaf key at there has is b = taken_at old new leaf key at there has b
+taken_by false old new leaf key at there has is b = absurd cc
 
 pub taken_gap : (old : List ℕ) (leaf : RowLeaf) (key : List ℕ) (at : ℕ) → row_leaf_of old ≡ Some leaf → IsPlaceFor (entries_of old) key at → IsTaken false leaf key old
 taken_gap old leaf key at there has =
@@ -372,3 +377,12 @@ too_full old other leaf second a b there there2 is is2 full fits =
 
 pub number_small : (bytes : List ℕ) (leaf : RowLeaf) (number : ℕ) → row_leaf_of bytes ≡ Some leaf → leaf.number ≡ number → number < 2 ^ 32
 number_small bytes leaf number there is = let n = (leaf_page_of bytes leaf there).keeps.number in omega arith
+
+-- the header of a leaf of a table
+pub named_leaf_head : (table number : ℕ) (bytes : List ℕ) (head : PageHead) → ((longest : ℕ) → (v : RowLeaf) → Spells (row_leaf_format longest) v bytes → head ≡ leaf_head v)
+    → (leaf : RowLeaf) → IsLeafNamed table number bytes leaf → ((head.kind ≡ 1) × (head.level ≡ 0)) × ((head.table ≡ table) × (head.number ≡ number))
+named_leaf_head table number bytes head reads leaf named =
+    let same = leaf_head_is bytes head leaf reads named.0 in (
+      (ap (λ (h : PageHead). h.kind) same, ap (λ (h : PageHead). h.level) same),
+      (ap (λ (h : PageHead). h.table) same ∙ named.1, ap (λ (h : PageHead). h.number) same ∙ named.2),
+    )

@@ -302,3 +302,19 @@ run_leaf_by table number bytes head r w reads is = (
 
 pub no_run_leaf : (table number : ℕ) (bytes : List ℕ) → ¬ ((v : RowLeaf) × Spells (row_leaf_format longest_value) v bytes) → IsTrue false ↔ IsRunLeaf table number bytes
 no_run_leaf table number bytes out = (λ f. absurd cc, λ l. absurd (out (l.leaf, leaf_spells bytes l.leaf l.there)))
+
+-- what the header of a leaf says
+pub leaf_head_is : (bytes : List ℕ) (head : PageHead) (leaf : RowLeaf) → ((longest : ℕ) → (v : RowLeaf) → Spells (row_leaf_format longest) v bytes → head ≡ leaf_head v)
+    → row_leaf_of bytes ≡ Some leaf → head ≡ leaf_head leaf
+leaf_head_is bytes head leaf reads there = reads longest_value leaf (leaf_spells bytes leaf there)
+
+-- the header of a leaf of a table with rows
+pub run_leaf_head : (table number : ℕ) (bytes : List ℕ) (head : PageHead) → ((longest : ℕ) → (v : RowLeaf) → Spells (row_leaf_format longest) v bytes → head ≡ leaf_head v)
+    → IsRunLeaf table number bytes → ((head.kind ≡ 1) × (head.level ≡ 0)) × ((head.table ≡ table) × (head.number ≡ number) × (1 ≤ head.count))
+run_leaf_head table number bytes head reads l =
+    let same = leaf_head_is bytes head l.leaf reads l.there in
+    let many = l.has_rows in
+    let count : head.count ≡ length l.leaf.rows = ap (λ (h : PageHead). h.count) same in (
+      (ap (λ (h : PageHead). h.kind) same, ap (λ (h : PageHead). h.level) same),
+      (ap (λ (h : PageHead). h.table) same ∙ l.of_table, ap (λ (h : PageHead). h.number) same ∙ l.own_number, omega arith),
+    )

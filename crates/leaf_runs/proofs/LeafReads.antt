@@ -11,7 +11,7 @@ use Rattle.std.specs.declared.cmp.Ordering.TheVariants.{Less, Equal, Greater}
 use Rattle.std.specs.Ordering.{is_lt}
 use Rattle.std.specs.Cmp.{tied_itself}
 use Rattle.std.specs.Cmp.Lexicographic.{nat_list_cmp_total}
-use Rattle.std.specs.FinMap.{find, is_sorted}
+use Rattle.std.specs.FinMap.{find, is_sorted, slice_cmp-IsAntisymmetric, nat_cmp-IsAntisymmetric}
 use Rattle.mdb_bytes.specs.Held.{IsFoundRow}
 use Rattle.mdb_bytes.specs.TablePages.{Row, RowLeaf, row_fits, longest_value}
 use Rattle.row_page.specs.Entries.{PageEntry, entries_of, page_entry_at, key_at, empty_entry, HasKey, IsPlaceFor, page_head_of, is_leaf, by_bytes}
@@ -84,6 +84,14 @@ module _ (bytes : List ℕ) (leaf : RowLeaf) (p : IsLeafPage bytes leaf) where
     short_at [] i all lt = absurd (omega arith)
     short_at (x ∷ rows) zero all lt = let limits = row_limits x (and_left (row_fits longest_value x) _ (and_left (row_ok x) _ all)) in (limits.1, limits.2)
     short_at (x ∷ rows) (suc i) all lt = short_at rows i (and_right (row_ok x) _ all) (omega arith)
+
+  -- the length of a key that is found
+  pub key_found : (key : List ℕ) (at : ℕ) → IsAt by_bytes key_of_row leaf.rows key at → length key ≤ 256
+  key_found key at is =
+      let short = (row_short at is.in_range).0 in
+      let e = entry_is at no_row is.in_range in
+      let same : (get_or leaf.rows at no_row).0 ≡ key = slice_cmp-IsAntisymmetric nat_cmp-IsAntisymmetric _ key (is.same_here no_row) in
+      subst (λ (k : List ℕ). length k ≤ 256) (ap (λ (x : PageEntry). x.key) e ∙ same) short
 
   -- a row that was copied
   pub row_copied : (at : ℕ) (key value : List ℕ) → at < length leaf.rows → key ≡ key_at (entries_of bytes) at → value ≡ (page_entry_at (entries_of bytes) at).rest → slice_get leaf.rows at ≡ Some (key, value)

@@ -450,3 +450,8 @@ runs_live pages r = catalogue_lives pages (subst IsSome (sym r.page_0) refl)
 -- what was done, by the answer
 pub put_as : (done answer : Bool) (pages pages2 : PageBytes) (page : ℕ) (leaf : RowLeaf) (key value : List ℕ) → done ≡ answer → IsPutOn done pages pages2 page leaf key value → IsPutOn answer pages pages2 page leaf key value
 put_as done answer pages pages2 page leaf key value same is = subst (λ (d : Bool). IsPutOn d pages pages2 page leaf key value) same is
+
+-- the second of two leaves stays while the first one is made another
+pub second_kept : (pages pages2 : PageBytes) (table first second : ℕ) (key : List ℕ) (a b : RowLeaf) → AreHalves pages table first second key a b → (leaf : RowLeaf) → SetsLeaf pages pages2 first leaf
+    → HasLeaf pages2 table second
+second_kept pages pages2 table first second key a b halves leaf set = has_named pages2 table second b (named_as pages pages2 table second b (set.others second (λ e. halves.apart (sym e))) halves.second)

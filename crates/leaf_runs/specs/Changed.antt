@@ -8,8 +8,8 @@
 --     leaves_added      how many leaves a change has added
 --     FindsSpot, HasFound      where a key stands or would stand, and what its row costs
 --     PutsRow, DelsRow      what a put and a deletion make of the pages
-use Rattle.std.specs.Prelude.{◌≡◌, ℕ, ◌-◌, ◌<◌, ◌^◌}
-use Rattle.std.specs.Prelude.{List, Bool, true, false, Option, Some, None, length, map, slice_set}
+use Rattle.std.specs.Prelude.{◌≡◌, ℕ, ◌-◌, ◌<◌}
+use Rattle.std.specs.Prelude.{List, Option, Some, None, length, map, slice_set}
 use Rattle.std.specs.Prelude.{Contains}
 use Rattle.std.specs.FinMap.{get, insert, remove}
 use Rattle.mdb_bytes.specs.declared.logical_pages.CatalogueEntry.{CatalogueEntry}
@@ -27,13 +27,11 @@ abbrev pub with_entry : Catalogue → (table : ℕ) → CatalogueEntry → Catal
 with_entry catalogue table entry =
     record { entries = slice_set catalogue.entries (table - 1) entry }
 
--- the entry was set; or the page is no catalogue, or an entry has no room for the cost
-abbrev pub IsEntrySet : (done : Bool) → (table : ℕ) → CatalogueEntry → (old new : List ℕ) → Type 0
-IsEntrySet true table entry old new =
+-- the page is a catalogue, and says this of the table now
+abbrev pub IsEntrySet : (table : ℕ) → CatalogueEntry → (old new : List ℕ) → Type 0
+IsEntrySet table entry old new =
     (catalogue : Catalogue) × (catalogue_of old ≡ Some catalogue)
     × (catalogue_of new ≡ Some (with_entry catalogue table entry))
-IsEntrySet false table entry old new =
-    (catalogue : Catalogue) → catalogue_of old ≡ Some catalogue → entry.cost < 2 ^ 62 → ⊥
 
 -- page 0 says this of the table now, and all else is as it was
 pub record SetsEntry (pages pages2 : PageBytes) (table : ℕ) (entry : CatalogueEntry) : Type 0 where

@@ -1,4 +1,5 @@
-//! A row leaf as a sorted list of rows, read and edited in place.
+//! A row leaf as a sorted list of rows, read in place. The bytes may be any: what is not such a leaf
+//! gives some answer, and no fault.
 ghost use Rattle.std.specs.Prelude.{◌≡◌, ◌+◌, ◌<◌, ◌≤◌, ℕ, ◌↔◌};
 ghost use Rattle.std.specs.Prelude.{List, length, IsTrue, Some, true, Result, MatchResult};
 ghost use Rattle.std.specs.Prelude.{slice_get};
@@ -34,6 +35,13 @@ fn names(head: PageHead, table: Table, number: u32) -> bool
     head.table == table.0 && head.number == number && head.count >= 1
 }
 
+/// Whether a head is that of a row leaf.
+pub(crate) fn is_leaf_head(head: PageHead) -> bool
+    ensures { IsTrue result ↔ ((head.kind ≡ 1) × (head.level ≡ 0)) }
+{
+    head.kind == 1 && head.level == 0
+}
+
 /// Whether a page is a leaf of the table that has rows, and names itself by this number.
 pub(crate) fn is_run_leaf(page: &[u8; PAGE_BYTES], table: Table, number: u32) -> bool
     ensures { IsTrue result ↔ IsRunLeaf table.0 number page.now }
@@ -44,9 +52,32 @@ pub(crate) fn is_run_leaf(page: &[u8; PAGE_BYTES], table: Table, number: u32) ->
     names(page_head(page), table, number)
 }
 
+// The same by its head alone. It is true of such a leaf, and may be true of other bytes.
+fn may_be_run_leaf(page: &[u8; PAGE_BYTES], table: Table, number: u32) -> bool
+    ensures { IsRunLeaf table.0 number page.now → IsTrue result }
+{
+    let head = page_head(page);
+    is_leaf_head(head) && names(head, table, number)
+}
+
+/// Tests a page for such a leaf before it is read: whole where its bytes come from a device, by its
+/// head alone where they were in memory, since they were tested as they came there.
+pub(crate) fn passes_as_run_leaf(
+    page: &[u8; PAGE_BYTES],
+    in_memory: bool,
+    table: Table,
+    number: u32,
+) -> bool
+    ensures { IsRunLeaf table.0 number page.now → IsTrue result }
+{
+    if in_memory {
+        return may_be_run_leaf(page, table, number);
+    }
+    is_run_leaf(page, table, number)
+}
+
 /// Where the row with a key stands in a leaf, or would stand.
 pub(crate) fn search(page: &[u8; PAGE_BYTES], key: &[u8]) -> Result<usize, usize>
-    requires { (leaf : RowLeaf) × (row_leaf_of page.now ≡ Some leaf) }
     ensures { (leaf : RowLeaf) → row_leaf_of page.now ≡ Some leaf
         → MatchResult result (IsAt by_bytes key_of_row leaf.rows key.now)
         (IsGap by_bytes key_of_row leaf.rows key.now) }
@@ -56,7 +87,6 @@ pub(crate) fn search(page: &[u8; PAGE_BYTES], key: &[u8]) -> Result<usize, usize
 
 /// The value of the row with a key; false where a leaf has no such row.
 pub(crate) fn copy_value(page: &[u8; PAGE_BYTES], key: &[u8], into: &mut ValueBuf) -> bool
-    requires { (leaf : RowLeaf) × (row_leaf_of page.now ≡ Some leaf) }
     ensures { (leaf : RowLeaf) → row_leaf_of page.now ≡ Some leaf
         → IsFoundRow result (find by_bytes key.now leaf.rows) into.new.items }
 {
@@ -69,30 +99,29 @@ pub(crate) fn copy_value(page: &[u8; PAGE_BYTES], key: &[u8], into: &mut ValueBu
 
 /// What the row with a key costs, 0 where a leaf has no such row.
 pub(crate) fn row_cost(page: &[u8; PAGE_BYTES], key: &[u8]) -> u64
-    requires { (leaf : RowLeaf) × (row_leaf_of page.now ≡ Some leaf) }
     ensures { (leaf : RowLeaf) → row_leaf_of page.now ≡ Some leaf
         → result ≡ row_cost_of key.now leaf.rows }
 {
     let Ok(at) = search(page, key) else {
         return 0;
     };
-    8 + key.len() as u64 + value_of(page, at).len() as u64
+    let value = value_of(page, at);
+    8u64.saturating_add(key.len() as u64)
+        .saturating_add(value.len() as u64)
 }
 
 // Whether the last key of a leaf is below a key.
 fn ends_below(page: &[u8; PAGE_BYTES], key: &[u8]) -> bool
-    requires { (leaf : RowLeaf) × (row_leaf_of page.now ≡ Some leaf) × (0 < length leaf.rows) }
-    ensures { (leaf : RowLeaf) → row_leaf_of page.now ≡ Some leaf
+    ensures { (leaf : RowLeaf) → row_leaf_of page.now ≡ Some leaf → 0 < length leaf.rows
         → result ≡ all_below key.now leaf.rows }
 {
-    let last = key_of(page, count_of(page) - 1);
+    let last = key_of(page, count_of(page).saturating_sub(1));
     last.cmp(&key).is_lt()
 }
 
 // Whether a key stands in a leaf with rows or would stand there, among the leaves from it on.
 fn stands_here(page: &[u8; PAGE_BYTES], key: &[u8]) -> bool
-    requires { (leaf : RowLeaf) × (row_leaf_of page.now ≡ Some leaf) × (0 < length leaf.rows) }
-    ensures { (leaf : RowLeaf) → row_leaf_of page.now ≡ Some leaf
+    ensures { (leaf : RowLeaf) → row_leaf_of page.now ≡ Some leaf → 0 < length leaf.rows
         → BelongsHere result leaf key.now }
 {
     if next_of(page) == 0 {
@@ -103,8 +132,8 @@ fn stands_here(page: &[u8; PAGE_BYTES], key: &[u8]) -> bool
 
 /// What a walk for a key learns of a leaf with rows.
 pub(crate) fn see(page: &[u8; PAGE_BYTES], key: &[u8]) -> Sight
-    requires { (leaf : RowLeaf) × (row_leaf_of page.now ≡ Some leaf) × (0 < length leaf.rows) }
-    ensures { (leaf : RowLeaf) → row_leaf_of page.now ≡ Some leaf → Sees leaf key.now result }
+    ensures { (leaf : RowLeaf) → row_leaf_of page.now ≡ Some leaf → 0 < length leaf.rows
+        → Sees leaf key.now result }
 {
     Sight {
         is_here: stands_here(page, key),
@@ -114,23 +143,21 @@ pub(crate) fn see(page: &[u8; PAGE_BYTES], key: &[u8]) -> Sight
 
 /// Where the rows after a key begin in a leaf.
 pub(crate) fn first_behind(page: &[u8; PAGE_BYTES], after: &[u8]) -> usize
-    requires { (leaf : RowLeaf) × (row_leaf_of page.now ≡ Some leaf) }
     ensures { (leaf : RowLeaf) → row_leaf_of page.now ≡ Some leaf
         → IsCut leaf.rows after.now result }
 {
     match search(page, after) {
-        Ok(at) => at + 1,
+        Ok(at) => at.saturating_add(1),
         Err(at) => at,
     }
 }
 
 // Copies the key and the value of a row.
 fn copy_row(page: &[u8; PAGE_BYTES], at: usize, key: &mut KeyBuf, value: &mut ValueBuf)
-    requires { (leaf : RowLeaf) × (row_leaf_of page.now ≡ Some leaf) × (at < length leaf.rows) }
-    ensures { (leaf : RowLeaf) → row_leaf_of page.now ≡ Some leaf
+    ensures { (leaf : RowLeaf) → row_leaf_of page.now ≡ Some leaf → at < length leaf.rows
         → slice_get leaf.rows at ≡ Some (key.new.items, value.new.items) }
 {
-    // There is room for every key and every value, so both succeed.
+    // There is room for every key and every value of a leaf, so both succeed.
     key.clear();
     let _ = key.try_extend_from_slice(key_of(page, at));
     value.clear();
@@ -144,7 +171,6 @@ pub(crate) fn copy_behind(
     key: &mut KeyBuf,
     value: &mut ValueBuf,
 ) -> bool
-    requires { (leaf : RowLeaf) × (row_leaf_of page.now ≡ Some leaf) }
     ensures { (leaf : RowLeaf) → row_leaf_of page.now ≡ Some leaf
         → IsFirstAfter result leaf.rows after.now key.new.items value.new.items }
 {

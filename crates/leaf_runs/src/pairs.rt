@@ -7,6 +7,7 @@ ghost use Rattle.mdb_bytes.specs.PageReadings.{row_leaf_of};
 ghost use Rattle.row_page.specs.Entries.{by_bytes};
 ghost use Rattle.leaf_runs.specs.Edits.{IsLeafNamed};
 
+use crate::leaf::is_leaf_head;
 use mdb_bytes::{PageHead, PairEdit, check_row_leaf, page_head};
 use mdb_model::limits::{PAGE_BYTES, PAGE_ROOM};
 use mdb_model::name::Table;
@@ -33,6 +34,32 @@ fn is_named(head: PageHead, table: Table, number: u32) -> bool
     ensures { IsTrue result ↔ ((head.table ≡ table.0) × (head.number ≡ number)) }
 {
     head.table == table.0 && head.number == number
+}
+
+// Whether the head of a page is that of a leaf of the table with this number. It is true of such a
+// leaf, and may be true of other bytes.
+fn may_be_leaf(page: &[u8; PAGE_BYTES], table: Table, number: u32) -> bool
+    ensures { (leaf : RowLeaf) → IsLeafNamed table.0 number page.now leaf → IsTrue result }
+{
+    let head = page_head(page);
+    is_leaf_head(head) && is_named(head, table, number)
+}
+
+/// Tests a page for a leaf of the table with this number, before it is read or edited: whole where
+/// its bytes come from a device, by its head alone where they were in memory, since they were
+/// tested as they came there.
+pub(crate) fn passes_as_leaf(
+    page: &[u8; PAGE_BYTES],
+    in_memory: bool,
+    table: Table,
+    number: u32,
+) -> bool
+    ensures { (leaf : RowLeaf) → IsLeafNamed table.0 number page.now leaf → IsTrue result }
+{
+    if in_memory {
+        return may_be_leaf(page, table, number);
+    }
+    is_leaf_of(page, table, number)
 }
 
 /// Whether a page is a leaf of the table, and names itself by this number.

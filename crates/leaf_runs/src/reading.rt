@@ -12,7 +12,7 @@ ghost use Rattle.leaf_runs.specs.Runs.{rows_in_pages};
 ghost use Rattle.leaf_runs.specs.Loose.{row_cost_of};
 
 use crate::catalogue::read_entry;
-use crate::leaf::{Sight, copy_behind, copy_value, is_run_leaf, row_cost, see};
+use crate::leaf::{Sight, copy_behind, copy_value, passes_as_run_leaf, row_cost, see};
 use mdb_bytes::{CatalogueEntry, Pages};
 use mdb_model::bytes::{KeyBuf, ValueBuf};
 use mdb_model::fault::{Damage, Device, PageFault, Rule};
@@ -39,7 +39,8 @@ pub(crate) fn look<P: Pages>(
     page: u32,
     key: &[u8],
 ) -> Result<Sight, PageFault>
-    ensures seen { P.is_known pages.old → IfOk result (IsSeen (P.pages pages.old) page key.now) }
+    ensures seen { P.is_known pages.old → HasRunLeaf (P.pages pages.old) table.0 page
+        → IfOk result (IsSeen (P.pages pages.old) page key.now) }
     ensures same { P.is_known pages.old
         → OnOk result (P.is_known pages.new × (P.pages pages.new ≡ P.pages pages.old)) }
     ensures spare { P.spare pages.old ≤ P.spare pages.new }
@@ -51,8 +52,9 @@ pub(crate) fn look<P: Pages>(
     if !pages.lives(page) {
         return Err(broken(page, Rule::Page));
     }
+    let in_memory = pages.is_in_memory(page);
     let bytes = pages.read(page)?;
-    if !is_run_leaf(bytes, table, page) {
+    if !passes_as_run_leaf(bytes, in_memory, table, page) {
         return Err(broken(page, Rule::Page));
     }
     Ok(see(bytes, key))
@@ -108,7 +110,7 @@ fn read_value<P: Pages>(
     key: &[u8],
     into: &mut ValueBuf,
 ) -> Result<bool, PageFault>
-    ensures found { P.is_known pages.old
+    ensures found { P.is_known pages.old → HasRunLeaf (P.pages pages.old) table.0 page
         → IfOk result
         (λ found. (leaf : RowLeaf) × (leaf_at (P.pages pages.old) page ≡ Some leaf)
         × IsFoundRow found (find by_bytes key.now leaf.rows) into.new.items) }
@@ -123,8 +125,9 @@ fn read_value<P: Pages>(
     if !pages.lives(page) {
         return Err(broken(page, Rule::Page));
     }
+    let in_memory = pages.is_in_memory(page);
     let bytes = pages.read(page)?;
-    if !is_run_leaf(bytes, table, page) {
+    if !passes_as_run_leaf(bytes, in_memory, table, page) {
         return Err(broken(page, Rule::Page));
     }
     Ok(copy_value(bytes, key, into))
@@ -137,7 +140,7 @@ pub(crate) fn row_cost_at<P: Pages>(
     page: u32,
     key: &[u8],
 ) -> Result<u64, PageFault>
-    ensures cost { P.is_known pages.old
+    ensures cost { P.is_known pages.old → HasRunLeaf (P.pages pages.old) table.0 page
         → IfOk result
         (λ cost. (leaf : RowLeaf) × (leaf_at (P.pages pages.old) page ≡ Some leaf)
         × (cost ≡ row_cost_of key.now leaf.rows)) }
@@ -152,8 +155,9 @@ pub(crate) fn row_cost_at<P: Pages>(
     if !pages.lives(page) {
         return Err(broken(page, Rule::Page));
     }
+    let in_memory = pages.is_in_memory(page);
     let bytes = pages.read(page)?;
-    if !is_run_leaf(bytes, table, page) {
+    if !passes_as_run_leaf(bytes, in_memory, table, page) {
         return Err(broken(page, Rule::Page));
     }
     Ok(row_cost(bytes, key))
@@ -205,7 +209,7 @@ fn read_behind<P: Pages>(
     key: &mut KeyBuf,
     value: &mut ValueBuf,
 ) -> Result<Onward, PageFault>
-    ensures found { P.is_known pages.old
+    ensures found { P.is_known pages.old → HasRunLeaf (P.pages pages.old) table.0 page
         → IfOk result
         (λ onward. IsOnward (P.pages pages.old) page after.now onward.found onward.next
         key.new.items value.new.items) }
@@ -220,8 +224,9 @@ fn read_behind<P: Pages>(
     if !pages.lives(page) {
         return Err(broken(page, Rule::Page));
     }
+    let in_memory = pages.is_in_memory(page);
     let bytes = pages.read(page)?;
-    if !is_run_leaf(bytes, table, page) {
+    if !passes_as_run_leaf(bytes, in_memory, table, page) {
         return Err(broken(page, Rule::Page));
     }
     Ok(Onward {
@@ -239,7 +244,7 @@ fn scan_from<P: Pages>(
     key: &mut KeyBuf,
     value: &mut ValueBuf,
 ) -> Result<bool, PageFault>
-    ensures found { P.is_known pages.old
+    ensures found { P.is_known pages.old → HasTwoLeaves (P.pages pages.old) table.0 page
         → IfOk result
         (λ found. IsRowScanned (P.pages pages.old) page after.now found key.new.items
         value.new.items) }

@@ -1,7 +1,6 @@
 //! What is done to a run after a change, so that its leaves fill two pages each.
-ghost use Rattle.std.specs.Prelude.{◌≡◌, ◌+◌, ◌≤◌, ◌++◌, ◌∷◌, [], ℕ};
+ghost use Rattle.std.specs.Prelude.{◌≡◌, ◌+◌, ◌^◌, ◌<◌, ◌≤◌, ◌++◌, ◌∷◌, [], ℕ};
 ghost use Rattle.std.specs.Prelude.{List, Option, IsTrue, IfOk, OnOk};
-ghost use Rattle.mdb_bytes.specs.Parts.{page_room};
 ghost use Rattle.mdb_bytes.specs.Held.{HasPageCause};
 ghost use Rattle.mdb_bytes.specs.Forms.{Neighbours};
 ghost use Rattle.leaf_runs.specs.Runs.{Leaf, LeavesFillTwo};
@@ -10,7 +9,7 @@ ghost use Rattle.leaf_runs.specs.Loose.{HasChangedRun, JoinsLeaves};
 ghost use Rattle.leaf_runs.specs.Steps.{HasLeaf};
 ghost use Rattle.leaf_runs.specs.Tries.{IsFilled, IsOptionTry, HasOptionHere};
 
-use crate::pairs::{JoinNext, is_leaf_of};
+use crate::pairs::{JoinNext, passes_as_leaf};
 use crate::reading::broken;
 use crate::writing::join_leaves;
 use mdb_bytes::Pages;
@@ -30,9 +29,9 @@ struct Fill {
 
 // How full a leaf is, and which page it names as the next one.
 fn used_and_next<P: Pages>(pages: &mut P, table: Table, page: u32) -> Result<Fill, PageFault>
-    ensures filled { P.is_known pages.old
+    ensures filled { P.is_known pages.old → HasLeaf (P.pages pages.old) table.0 page
         → IfOk result (IsFilled (P.pages pages.old) table.0 page) }
-    ensures within { IfOk result (λ fill. fill.used ≤ page_room) }
+    ensures within { IfOk result (λ fill. fill.used < 2 ^ 16) }
     ensures same { P.is_known pages.old
         → OnOk result (P.is_known pages.new × (P.pages pages.new ≡ P.pages pages.old)) }
     ensures spare { P.spare pages.old ≤ P.spare pages.new }
@@ -43,8 +42,9 @@ fn used_and_next<P: Pages>(pages: &mut P, table: Table, page: u32) -> Result<Fil
     if !pages.lives(page) {
         return Err(broken(page, Rule::Page));
     }
+    let in_memory = pages.is_in_memory(page);
     let bytes = pages.read(page)?;
-    if !is_leaf_of(bytes, table, page) {
+    if !passes_as_leaf(bytes, in_memory, table, page) {
         return Err(broken(page, Rule::Page));
     }
     Ok(Fill {

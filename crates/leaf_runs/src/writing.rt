@@ -14,7 +14,7 @@ ghost use Rattle.leaf_runs.specs.Steps.{SetsLeaf, HasLeaf, IsPutOn, IsNewLeaf, I
 ghost use Rattle.leaf_runs.specs.Steps.{IsSplitOff, IsJoinedTo, MaySplit, MayJoin};
 
 use crate::editing::{del_row, put_row};
-use crate::pairs::{JoinNext, SplitAt, is_leaf_of};
+use crate::pairs::{JoinNext, SplitAt, passes_as_leaf};
 use crate::reading::broken;
 use mdb_bytes::Pages;
 use mdb_model::fault::{PageFault, Rule};
@@ -34,7 +34,7 @@ pub(crate) fn put_on_leaf<P: Pages>(
     requires value { IsTrue (is_value value.now) }
     requires room { 1 ≤ P.spare pages.old }
     // The result.
-    ensures put { P.is_known pages.old
+    ensures put { P.is_known pages.old → HasLeaf (P.pages pages.old) table.0 page
         → IfOk result
         (λ done. (leaf : RowLeaf) × (leaf_at (P.pages pages.old) page ≡ Some leaf)
         × IsPutOn done (P.pages pages.old) (P.pages pages.new) page leaf key.now
@@ -49,8 +49,9 @@ pub(crate) fn put_on_leaf<P: Pages>(
     if !pages.lives(page) {
         return Err(broken(page, Rule::Page));
     }
+    let in_memory = pages.is_in_memory(page);
     let bytes = pages.write(page)?;
-    if !is_leaf_of(bytes, table, page) {
+    if !passes_as_leaf(bytes, in_memory, table, page) {
         return Err(broken(page, Rule::Page));
     }
     Ok(put_row(bytes, key, value))
@@ -64,7 +65,7 @@ pub(crate) fn take_off_leaf<P: Pages>(
     key: &[u8],
 ) -> Result<bool, PageFault>
     requires room { 1 ≤ P.spare pages.old }
-    ensures taken { P.is_known pages.old
+    ensures taken { P.is_known pages.old → HasLeaf (P.pages pages.old) table.0 page
         → IfOk result
         (λ taken. (leaf : RowLeaf) × (leaf_at (P.pages pages.old) page ≡ Some leaf)
         × (taken ≡ is_some (find by_bytes key.now leaf.rows))
@@ -79,8 +80,9 @@ pub(crate) fn take_off_leaf<P: Pages>(
     if !pages.lives(page) {
         return Err(broken(page, Rule::Page));
     }
+    let in_memory = pages.is_in_memory(page);
     let bytes = pages.write(page)?;
-    if !is_leaf_of(bytes, table, page) {
+    if !passes_as_leaf(bytes, in_memory, table, page) {
         return Err(broken(page, Rule::Page));
     }
     Ok(del_row(bytes, key))

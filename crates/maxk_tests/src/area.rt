@@ -14,8 +14,18 @@ pub(crate) fn make_database<H: Host>(
     host: &mut H,
     log_pages: u32,
 ) -> Result<(), CreateFault> {
+    make_area(alloc, host, log_pages, 512)
+}
+
+// The same with a data volume of so many.
+pub(crate) fn make_area<H: Host>(
+    alloc: Global,
+    host: &mut H,
+    log_pages: u32,
+    blocks: u32,
+) -> Result<(), CreateFault> {
     let mut volumes = ArrayVec::new();
-    volumes.push(512);
+    volumes.push(blocks);
     if can_create(7, log_pages, &volumes) {
         create(alloc, host, 7, log_pages, &volumes)
     } else {

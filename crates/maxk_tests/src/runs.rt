@@ -10,7 +10,7 @@ use std::alloc::Global;
 use std::test::Fail;
 
 // A script, and what it is answered on a new database with a log of four pages.
-const ROWS: [(&'static [u8], &'static [u8]); 19] = [
+const ROWS: [(&'static [u8], &'static [u8]); 20] = [
     // The smallest restart, and what the database says of itself: two pages of its own, three of a
     // table with one row, and two blocks for the converter, twice.
     (
@@ -27,6 +27,11 @@ const ROWS: [(&'static [u8], &'static [u8]); 19] = [
           OK DEL\nOK OFFLINE\nOK ADMIN 2\nOK SAVEPOINT\nOK ONLINE 2\nROW 'a' '1'\nROW 'b' '2'\n\
           OK SCAN 2\nOK OFFLINE\nERR 2 STATE OFFLINE\nOK ONLINE 2\nROW 'a' '1'\nROW 'b' '2'\n\
           OK SCAN 2\n",
+    ),
+    // A change that is open in a savepoint is not there after a restart.
+    (
+        b"db_online\ns 1 put 1 'k' 'v'\nsavepoint\nkill\ndb_online\ns 1 get 1 'k'\n",
+        b"OK ONLINE 0\nOK PUT\nOK SAVEPOINT\nOK OFFLINE\nOK ONLINE 0\nNONE\n",
     ),
     (
         b"db_online\ns 1 put 1 'k' 'v'\ns 1 commit\nkill\ndb_online\ns 1 get 1 'k'\n",

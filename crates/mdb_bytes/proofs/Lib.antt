@@ -18,6 +18,7 @@ pub mod SlotRecordLaws
 pub mod TableLaws
 pub mod ConverterLaws
 pub mod LogicalPageLaws
+pub mod CatalogueEntries
 pub mod MediumLaws
 pub mod NextRow
 pub mod Scanning

@@ -1,18 +1,18 @@
 -- A whole scan of a table, row by row.
 --     ScannedTo      these items are the rows of a table up to a key
 --     scan_first, scan_step, scan_end      at the empty key, after the next row, and where there is none
-use Rattle.std.proofs.Common.{◌≡◌, refl, sym, ap, ◌∙◌, subst, ℕ, Bool, true, false, cond, ◌&&◌, ◌==◌, List, [], ◌∷◌, ◌++◌, map, filter, Option, Some, None, append_assoc, append-nil, eqb-true, eq-eqb}
+use Rattle.std.proofs.Common.{◌≡◌, refl, sym, ap, ◌∙◌, ℕ, Bool, true, false, cond, ◌&&◌, ◌==◌, List, [], ◌∷◌, ◌++◌, map, filter, Option, Some, None, append_assoc, append-nil, eqb-true}
 use Rattle.std.specs.Ordering.{nat_cmp, is_lt, is_eq, ordering_then}
 use Rattle.std.specs.declared.cmp.Ordering.{Ordering}
 use Rattle.std.specs.declared.cmp.Ordering.TheVariants.{Less, Equal, Greater}
 use Rattle.std.specs.Cmp.{tied_itself, nat_cmp_total}
-use Rattle.std.specs.Cmp.Lexicographic.{nat_list_cmp_total, slice_cmp}
+use Rattle.std.specs.Cmp.Lexicographic.{nat_list_cmp_total}
 use Rattle.std.specs.FinMap.{get, find, entries, entries_sorted, get-entries}
 use Rattle.mdb_model.specs.Answers.{Item, Row}
 use Rattle.mdb_model.specs.Tables.{Place, Tables, place_cmp}
 use Rattle.mdb_model.specs.Steps.{rows_of}
 use Rattle.mdb_bytes.specs.Held.{next_row, is_before}
-use Rattle.mdb_bytes.proofs.NextRow.{is_behind, place_total, place_exact, before-is, next_entry, no_entry, rest_left, none_left, IsNext, is_next}
+use Rattle.mdb_bytes.proofs.NextRow.{is_behind, place_total, place_exact, before-is, next_entry, no_entry, rest_left, none_left, is_next}
 
 -- the rows of a table whose keys come after this one
 abbrev pub rows_behind : Tables → (table : ℕ) → (after : List ℕ) → List Item

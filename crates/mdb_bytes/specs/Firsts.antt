@@ -4,7 +4,7 @@
 --     first_restart, first_log_info      the records
 --     first_catalogue, first_open_list, first_leaf, first_root      the pages
 --     first_block      the bytes of each block
-use Rattle.std.specs.Prelude.{ℕ, zero, suc, ◌+◌, ◌-◌, ◌/◌, ◌==◌, nat_lt, if◌then◌else◌, List, [], ◌∷◌, ◌++◌, replicate, sum}
+use Rattle.std.specs.Prelude.{ℕ, zero, suc, ◌+◌, ◌-◌, ◌/◌, ◌==◌, nat_lt, if◌then◌else◌, List, [], ◌∷◌, replicate, sum}
 use Rattle.std.specs.List.{range_with_len}
 use Rattle.mdb_model.specs.declared.name.Name.{Name}
 use Rattle.mdb_bytes.specs.declared.restart_record.AreaState.TheVariants.{Normal}

@@ -39,8 +39,8 @@ pub use index_page::{IndexPageEntry, check_index_page, index_page_entry};
 pub use laws::{numbers_follow_from_bytes, pages_have_one_value, records_have_one_value};
 pub use log_info::{LogInfo, decode_log_info, encode_log_info};
 pub use logical_pages::{
-    Catalogue, CatalogueEntry, OpenEntry, OpenList, decode_catalogue, decode_open_list,
-    encode_catalogue, encode_open_list,
+    Catalogue, CatalogueEntry, OpenEntry, OpenList, catalogue_entry_at, decode_catalogue,
+    decode_open_list, encode_catalogue, encode_open_list, set_catalogue_entry,
 };
 pub use medium_pages::{
     LiveSet, MediumHeader, decode_live_set, decode_medium_header, encode_live_set,

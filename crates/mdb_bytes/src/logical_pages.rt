@@ -1,5 +1,6 @@
 //! The logical pages of fixed fields.
-ghost use Rattle.std.specs.Prelude.{◌≡◌, ◌+◌, ◌≤◌, map, min, length, drop};
+ghost use Rattle.std.specs.Prelude.{◌≡◌, ◌+◌, ◌<◌, ◌≤◌, ◌^◌, map, min, length, drop};
+ghost use Rattle.std.specs.Prelude.{slice_get, slice_set, Some};
 ghost use Rattle.mdb_bytes.specs.Fields.{Spells, Decodes, number_at, read_run};
 ghost use Rattle.mdb_bytes.specs.Parts.{field_of, page_len, KeepsLimits, ascend_from};
 ghost use Rattle.mdb_bytes.specs.LogicalPages.{header_fields, catalogue_entry_fields, catalogue_entry_reads, catalogue_format, open_entry_fields, open_entry_reads, open_list_front, open_list_format};
@@ -268,6 +269,28 @@ pub fn decode_catalogue(bytes: &[u8]) -> Option<Catalogue>
     ensures { Decodes catalogue_format bytes.now result }
 {
     decode::<Catalogue, 8192>(bytes)
+}
+
+/// What a catalogue says of a table, by its place from 0. Of other bytes it tells what stands there.
+pub fn catalogue_entry_at(bytes: &[u8; 8192], place: usize) -> CatalogueEntry
+    requires { place < 500 }
+    ensures { (v : Catalogue) → Spells catalogue_format v bytes.now
+        → slice_get v.entries place ≡ Some result }
+{
+    CatalogueEntry::read(bytes.split_at(64 + 16 * place).1)
+}
+
+/// Sets what a catalogue says of a table, by its place from 0. Of other bytes the sixteen of that
+/// place are changed alone.
+pub fn set_catalogue_entry(bytes: &mut [u8; 8192], place: usize, entry: &CatalogueEntry)
+    requires { place < 500 }
+    ensures { (v : Catalogue) → Spells catalogue_format v bytes.old → entry.now.cost < 2 ^ 62
+        → Spells catalogue_format (record { entries = slice_set v.entries place entry.now })
+        bytes.new }
+{
+    let (_, rest) = bytes.split_at_mut(64 + 16 * place);
+    let (at, _) = rest.split_at_mut(16);
+    entry.write(at);
 }
 
 /// The page of the open list.

@@ -70,6 +70,12 @@ pub trait Pages {
         ensures lives { result ≡ is_live (Self.pages self.now) page }
         ensures small { IsTrue result → page ≤ 65535 };
 
+    /// Whether the bytes of a page are in memory, so that lending them calls no device. A page that
+    /// is not has to come from a device, and its reader tests it then; one that is came from there
+    /// before, or was made and written here. It calls no device, and nothing rests on its answer
+    /// but how much is tested.
+    fn is_in_memory(&self, page: u32) -> bool;
+
     /// A page that did not live, and is paid from then on. Its bytes are not said, and neither is
     /// which number it gets.
     fn new_page(&mut self) -> Result<u32, PageFault>
@@ -181,6 +187,10 @@ impl<P: Pages> Pages for &mut P {
 
     fn lives(&self, page: u32) -> bool {
         (**self).lives(page)
+    }
+
+    fn is_in_memory(&self, page: u32) -> bool {
+        (**self).is_in_memory(page)
     }
 
     fn new_page(&mut self) -> Result<u32, PageFault> {

@@ -142,6 +142,11 @@ impl PageStore {
         }
     }
 
+    /// Whether a page lives and its block has a frame, so that reading it calls no device.
+    pub fn is_framed(&self, page: u32) -> bool {
+        self.lives(page) && self.has_frame(self.block_of(page))
+    }
+
     // The frame of a block that has one.
     pub(crate) fn frame(&self, block: u32) -> &[u8; PAGE_BYTES]
         requires below { block < block_count self.now }

@@ -70,6 +70,10 @@ impl<'a, H: Host> Pages for StoreView<'a, H> {
         store.lives(page)
     }
 
+    fn is_in_memory(&self, page: u32) -> bool {
+        self.store.is_framed(page)
+    }
+
     fn new_page(&mut self) -> Result<u32, PageFault> {
         let page = self.store.make_new();
         Ok(page)

@@ -1,7 +1,7 @@
 -- Laws of runs and slots.
 --     run-append, slots-append, run_more, slot_split      runs and slots in parts
---     move_fits, move_step, slots_all, slots_start      slots that are moved one after the other
-use Rattle.std.proofs.Common.{◌≡◌, ℕ, ◌+◌, ◌-◌, ◌*◌, ◌^◌, ◌<◌, ◌≤◌, List, [], ◌∷◌, ◌++◌, length, take, drop, get_or, refl, sym, ap, ◌∙◌, arith, length-append, append_assoc}
+--     move_step, slots_all, slots_start      slots that are moved one after the other
+use Rattle.std.proofs.Common.{◌≡◌, ℕ, ◌+◌, ◌-◌, ◌*◌, ◌%◌, ◌^◌, ◌<◌, ◌≤◌, List, [], ◌∷◌, ◌++◌, length, take, drop, get_or, refl, sym, ap, ◌∙◌, arith, length-append, append_assoc}
 use Rattle.std.proofs.lemmas.List.{append-nil, drop_at, take_at, drop_more, take_more, take_all, drop_all, take-append-drop, length-drop}
 use Rattle.byteorder.specs.Endian.{big_bytes, big_number}
 use Rattle.byteorder.specs.Numbers.{big_number-reads_back}
@@ -116,20 +116,21 @@ slot_moved from to k place cs part lt e p =
     ap (written_at place (big_bytes 2 b)) (slot_shape from to k place cs part lt e) ∙ over_at place x (big_bytes 2 a) (big_bytes 2 b) y lx refl
     ∙ ap (λ (t : List ℕ). x ++ t) (sym (one_more to k cs lt))
 
--- a slot that moves is a number of two bytes
-pub move_fits : (from to k place old : ℕ) (cs : List (List ℕ)) (part : List ℕ) → old ≡ number_at 2 place part → k < length cs → place ≡ 2 * (length cs - k - 1)
-    → part ≡ slots (from + length (joined_cells (take k cs))) (drop k cs) ++ slots to (take k cs) → from + length (joined_cells cs) < 2 ^ 16
-    → (from ≤ old) × (old - from ≤ length (joined_cells cs))
-move_fits from to k place old cs part read lt p e fits = let r = slot_read from to k place cs part lt e fits p in let w = within_run k cs in (omega arith, omega arith)
+-- a number that moves by the way from one place to another, and wraps
+moved_number : (from to n : ℕ) → from + n < 2 ^ 16 → to + n < 2 ^ 16 → (from + n + (to + (2 ^ 16 - from)) % 2 ^ 16) % 2 ^ 16 ≡ to + n
+moved_number from to n p q = omega arith
 
 -- a step of the move
-pub move_step : (from to k place old : ℕ) (cs : List (List ℕ)) (part new : List ℕ) → old ≡ number_at 2 place part → new ≡ written_at place (big_bytes 2 (old - from + to)) part
+pub move_step : (from to k place old moved : ℕ) (cs : List (List ℕ)) (part new : List ℕ) → old ≡ number_at 2 place part
+    → moved ≡ (old + (to + (2 ^ 16 - from)) % 2 ^ 16) % 2 ^ 16 → new ≡ written_at place (big_bytes 2 moved) part
     → k < length cs → place ≡ 2 * (length cs - k - 1)
-    → part ≡ slots (from + length (joined_cells (take k cs))) (drop k cs) ++ slots to (take k cs) → from + length (joined_cells cs) < 2 ^ 16
+    → part ≡ slots (from + length (joined_cells (take k cs))) (drop k cs) ++ slots to (take k cs) → from + length (joined_cells cs) < 2 ^ 16 → to + length (joined_cells cs) < 2 ^ 16
     → new ≡ slots (from + length (joined_cells (take (k + 1) cs))) (drop (k + 1) cs) ++ slots to (take (k + 1) cs)
-move_step from to k place old cs part new read is lt p e fits =
+move_step from to k place old moved cs part new read by is lt p e fits fits2 =
     let r = slot_read from to k place cs part lt e fits p in
-    let v : old - from + to ≡ to + length (joined_cells (take k cs)) = omega arith in
+    let w = within_run k cs in
+    let v : moved ≡ to + length (joined_cells (take k cs)) =
+    by ∙ ap (λ (n : ℕ). (n + (to + (2 ^ 16 - from)) % 2 ^ 16) % 2 ^ 16) (read ∙ r) ∙ moved_number from to (length (joined_cells (take k cs))) (omega arith) (omega arith) in
     is ∙ ap (λ (n : ℕ). written_at place (big_bytes 2 n) part) v ∙ slot_moved from to k place cs part lt e p
 
 -- all slots have moved

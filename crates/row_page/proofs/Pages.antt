@@ -112,6 +112,18 @@ cell_within h es i a lt =
     let f = a.fits in
     omega (arith, within_run (i + 1) cs, length-append (joined_cells (take i cs)) (get_or cs i []))
 
+-- a cell begins after the head, and what stands before it ends before the slots
+pub starts_within : (h : Head) (es : List PageEntry) (i start : ℕ) → start ≡ 64 + length (joined_cells (take i (cells (is_leaf h) es)))
+    → (64 ≤ start) × (start + 2 * length es ≤ 64 + used (cells (is_leaf h) es))
+starts_within h es i start at =
+    let w = within_run i (cells (is_leaf h) es) in
+    let l = length-map es (cell_of (is_leaf h)) in
+    (omega arith, omega arith)
+
+-- a place counted from the first cell
+pub past_head : (start n : ℕ) → start ≡ 64 + n → start - 64 ≡ n
+past_head start n e = omega arith
+
 -- the key in a cell
 pub cell_key_len : (leaf : Bool) (e : PageEntry) (more : List ℕ) → KeepsEntry leaf e → big_number 2 (cell_of leaf e ++ more) ≡ length e.key
 unfolding cell_of

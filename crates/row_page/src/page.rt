@@ -1,11 +1,11 @@
 //! A page as a sorted list of entries: rows on a leaf, separators with their children above.
-ghost use Rattle.std.specs.Prelude.{◌≡◌, ◌+◌, ◌<◌, ◌≤◌, ℕ, [], ◌++◌};
+ghost use Rattle.std.specs.Prelude.{◌≡◌, ◌+◌, ◌-◌, ◌*◌, ◌^◌, ◌<◌, ◌≤◌, ◌↔◌, ℕ, [], ◌++◌};
 ghost use Rattle.std.specs.Prelude.{List, length, take, drop, Bool, true, false, Result};
 ghost use Rattle.std.specs.Prelude.{MatchResult, IsTrue};
 ghost use Rattle.std.specs.List.{insert, remove};
 ghost use Rattle.std.specs.declared.cmp.Ordering.TheVariants.{Less};
 ghost use Rattle.mdb_model.specs.Script.{is_table};
-ghost use Rattle.mdb_model.specs.declared.limits.TheConstants.{PAGE_ROOM};
+ghost use Rattle.mdb_bytes.specs.Fields.{number_at};
 ghost use Rattle.row_page.specs.Page.{joined_cells, used};
 ghost use Rattle.row_page.specs.Entries.{
   PageEntry,
@@ -31,31 +31,31 @@ ghost use Rattle.row_page.specs.Entries.{
 use crate::body::{append_cells, insert_cell, remove_cell, split_cells};
 use crate::parts::{HEAD_BYTES, write_four, write_head, write_two};
 use mdb_bytes::{byte_at, u16_at, u32_at};
-use mdb_model::limits::PAGE_BYTES;
+use mdb_model::limits::{PAGE_BYTES, PAGE_ROOM};
 use mdb_model::name::Table;
 use std::cmp::Ordering;
 
-/// The number of entries.
+/// The number of entries. Of bytes that are no page it answers what stands there.
 pub fn count_of(page: &[u8; PAGE_BYTES]) -> usize
-    requires { IsPage page.now }
-    ensures { result ≡ length (entries_of page.now) }
+    ensures count { IsPage page.now → result ≡ length (entries_of page.now) }
+    ensures small { result < 2 ^ 16 }
 {
     u16_at(page, 8) as usize
 }
 
 // The bytes of the cells and of their slots.
 fn cells_used(page: &[u8; PAGE_BYTES]) -> usize
-    requires { IsPage page.now }
-    ensures { result ≡ used (cells_of page.now) }
+    ensures used { IsPage page.now → result ≡ used (cells_of page.now) }
+    ensures small { result < 2 ^ 16 }
 {
     u16_at(page, 10) as usize
 }
 
 /// The bytes that its entries take, at most 8,128: for each row `8 + key + value`, for each child
-/// `8 + key`.
+/// `8 + key`. Of bytes that are no page it answers what stands there.
 pub fn used_of(page: &[u8; PAGE_BYTES]) -> usize
-    requires { IsPage page.now }
-    ensures { result ≡ used_bytes page.now }
+    ensures used { IsPage page.now → result ≡ used_bytes page.now }
+    ensures small { result < 2 ^ 16 }
 {
     cells_used(page)
 }
@@ -84,32 +84,57 @@ pub fn next_of(page: &[u8; PAGE_BYTES]) -> u32
     u32_at(page, 12)
 }
 
-// Where an entry begins.
-fn slot_at(page: &[u8; PAGE_BYTES], index: usize) -> usize
-    requires page { IsPage page.now }
-    requires within { index < length (entries_of page.now) }
-    ensures { result ≡ 64 + length (joined_cells (take index (cells_of page.now))) }
+// The number of two bytes at a place, or 0 where the page ends before.
+fn two_at(page: &[u8; PAGE_BYTES], at: usize) -> usize
+    ensures two { at + 2 ≤ 8192 → result ≡ number_at 2 at page.now }
+    ensures small { result < 2 ^ 16 }
 {
-    u16_at(page, PAGE_BYTES - 2 - 2 * index) as usize
+    if at > PAGE_BYTES - 2 {
+        return 0;
+    }
+    u16_at(page, at) as usize
 }
 
-/// The key of the entry at an index.
+// The bytes from a place to an end, or none where the page ends before.
+fn bytes_to(page: &[u8; PAGE_BYTES], at: usize, end: usize) -> &[u8]
+    requires { at ≤ end }
+    ensures { end ≤ 8192 → result.now ≡ take (end - at) (drop at page.now) }
+{
+    if end > PAGE_BYTES {
+        return &[];
+    }
+    let (_, back) = page.split_at(at);
+    back.split_at(end - at).0
+}
+
+// Where an entry begins, or 0 for an index past all that a page may have.
+fn slot_at(page: &[u8; PAGE_BYTES], index: usize) -> usize
+    ensures slot { IsPage page.now → index < length (entries_of page.now)
+        → result ≡ 64 + length (joined_cells (take index (cells_of page.now))) }
+    ensures small { result < 2 ^ 16 }
+{
+    if index > PAGE_ROOM / 2 {
+        return 0;
+    }
+    two_at(page, PAGE_BYTES - 2 - 2 * index)
+}
+
+/// The key of the entry at an index. Of bytes that are no page, and past the entries, it answers some
+/// of the bytes, or none.
 pub fn key_of(page: &[u8; PAGE_BYTES], index: usize) -> &[u8]
-    requires page { IsPage page.now }
-    requires within { index < length (entries_of page.now) }
-    ensures { result.now ≡ key_at (entries_of page.now) index }
+    ensures { IsPage page.now → index < length (entries_of page.now)
+        → result.now ≡ key_at (entries_of page.now) index }
 {
     let at = slot_at(page, index);
-    let n = u16_at(page, at) as usize;
-    let (_, back) = page.split_at(at + 6);
-    back.split_at(n).0
+    let n = two_at(page, at);
+    bytes_to(page, at + 6, at + 6 + n)
 }
 
 /// The place of the entry with this key; where there is none, the place where it would stand. It
-/// looks at no more keys than the number of entries has binary digits.
+/// looks at no more keys than the number of entries has binary digits. Of bytes that are no page it
+/// answers some number.
 pub fn find(page: &[u8; PAGE_BYTES], key: &[u8]) -> Result<usize, usize>
-    requires { IsPage page.now }
-    ensures { MatchResult result (HasKey (entries_of page.now) key.now)
+    ensures { IsPage page.now → MatchResult result (HasKey (entries_of page.now) key.now)
         (IsPlaceFor (entries_of page.now) key.now) }
 {
     let mut low = 0;
@@ -127,7 +152,7 @@ pub fn find(page: &[u8; PAGE_BYTES], key: &[u8]) -> Result<usize, usize>
 
 // The bytes that the cell of an entry takes.
 fn size_of(leaf: bool, key: &[u8], rest: &[u8]) -> usize
-    requires { KeepsEntry leaf (record { key = key.now; rest = rest.now }) }
+    requires { (length key.now ≤ 256) × (length rest.now ≤ 2000) }
     ensures { result ≡ cell_len leaf (record { key = key.now; rest = rest.now }) }
 {
     if leaf {
@@ -137,92 +162,115 @@ fn size_of(leaf: bool, key: &[u8], rest: &[u8]) -> usize
     }
 }
 
-// Where cell i begins or would begin, counted from the first.
-fn place_of(page: &[u8; PAGE_BYTES], index: usize) -> usize
-    requires page { IsPage page.now }
-    requires within { index ≤ length (entries_of page.now) }
-    ensures { result ≡ length (joined_cells (take index (cells_of page.now))) }
+// Where cell i begins or would begin.
+fn start_of(page: &[u8; PAGE_BYTES], index: usize) -> usize
+    ensures start { IsPage page.now → index ≤ length (entries_of page.now)
+        → result ≡ 64 + length (joined_cells (take index (cells_of page.now))) }
+    ensures small { result ≤ 2 ^ 16 + 64 }
 {
     let count = count_of(page);
     if index < count {
-        slot_at(page, index) - HEAD_BYTES
+        slot_at(page, index)
     } else {
-        cells_used(page) - 2 * count
+        HEAD_BYTES + cells_used(page).saturating_sub(2 * count)
     }
 }
 
+// Whether a page of so many entries, which take so many bytes with their slots, may have a cell from
+// one place to another.
+fn may_have(count: usize, total: usize, start: usize, end: usize) -> bool
+    requires { (count < 2 ^ 16) × (total < 2 ^ 16) × (end ≤ 2 ^ 16 + 64) }
+    ensures { IsTrue result
+        ↔ ((64 ≤ start) × (start ≤ end) × (end + 2 * count ≤ 64 + total) × (total ≤ PAGE_ROOM)) }
+{
+    HEAD_BYTES <= start
+        && start <= end
+        && end + 2 * count <= HEAD_BYTES + total
+        && total <= PAGE_ROOM
+}
+
 /// Puts an entry in at the place that `find` answers for its key. `rest` is the value of the row,
-/// or the four bytes of the child on an index page.
-pub fn insert(page: &mut [u8; PAGE_BYTES], at: usize, key: &[u8], rest: &[u8])
-    requires page { IsPage page.old }
-    requires place { IsPlaceFor (entries_of page.old) key.now at }
-    requires kept { KeepsEntry (is_leaf (page_head_of page.old))
-        (record { key = key.now; rest = rest.now }) }
-    requires fits { used_bytes page.old
+/// or the four bytes of the child on an index page. It answers false, and leaves the page, where
+/// there is no room, or where the numbers of the head or the slot of the place cannot be those of a
+/// page; nothing else is tested.
+pub fn insert(page: &mut [u8; PAGE_BYTES], at: usize, key: &[u8], rest: &[u8]) -> bool
+    requires lengths { (length key.now ≤ 256) × (length rest.now ≤ 2000) }
+    ensures inserted { IsPage page.old → IsPlaceFor (entries_of page.old) key.now at
+        → KeepsEntry (is_leaf (page_head_of page.old)) (record { key = key.now; rest = rest.now })
+        → used_bytes page.old
         + entry_cost (is_leaf (page_head_of page.old)) (record { key = key.now; rest = rest.now })
-        ≤ PAGE_ROOM }
-    ensures { Becomes page.old page.new
+        ≤ PAGE_ROOM
+        → (result ≡ true) × Becomes page.old page.new
         (insert (entries_of page.old) at (record { key = key.now; rest = rest.now })) }
+    ensures refused { result ≡ false → page.new ≡ page.old }
 {
     let leaf = is_row_leaf(page);
     let count = count_of(page);
     let total = cells_used(page);
     let n = size_of(leaf, key, rest);
-    let place = place_of(page, at);
+    let start = start_of(page, at);
+    if at > count || !may_have(count, total, start, start) || total + n + 2 > PAGE_ROOM {
+        return false;
+    }
     let (head, body) = page.split_at_mut(HEAD_BYTES);
-    insert_cell(body, count, at, place, n, leaf, key, rest);
+    insert_cell(body, count, at, start - HEAD_BYTES, n, leaf, key, rest);
     write_two(head, 8, (count + 1) as u16);
     write_two(head, 10, (total + n + 2) as u16);
+    true
 }
 
-// The bytes of cell i.
-fn cell_size(page: &[u8; PAGE_BYTES], index: usize) -> usize
-    requires page { IsPage page.now }
-    requires within { index < length (entries_of page.now) }
-    ensures { result ≡ cell_len (is_leaf (page_head_of page.now))
-        (page_entry_at (entries_of page.now) index) }
-{
-    place_of(page, index + 1) - place_of(page, index)
-}
-
-/// Takes entry i out.
-pub fn remove(page: &mut [u8; PAGE_BYTES], at: usize)
-    requires page { IsPage page.old }
-    requires within { at < length (entries_of page.old) }
-    ensures { Becomes page.old page.new (remove (entries_of page.old) at) }
+/// Takes entry i out. It answers false, and leaves the page, where there is no such entry, or where
+/// the numbers of the head or the slot of the entry cannot be those of a page; nothing else is
+/// tested.
+pub fn remove(page: &mut [u8; PAGE_BYTES], at: usize) -> bool
+    ensures removed { IsPage page.old → at < length (entries_of page.old)
+        → (result ≡ true) × Becomes page.old page.new (remove (entries_of page.old) at) }
+    ensures refused { result ≡ false → page.new ≡ page.old }
 {
     let count = count_of(page);
     let total = cells_used(page);
-    let n = cell_size(page, at);
-    let place = place_of(page, at);
+    if at >= count {
+        return false;
+    }
+    let start = start_of(page, at);
+    let end = start_of(page, at + 1);
+    if !may_have(count, total, start, end) {
+        return false;
+    }
+    let n = end - start;
     let (head, body) = page.split_at_mut(HEAD_BYTES);
-    remove_cell(body, count, at, place, n);
+    remove_cell(body, count, at, start - HEAD_BYTES, n);
     write_two(head, 8, (count - 1) as u16);
     write_two(head, 10, (total - n - 2) as u16);
+    true
 }
 
-/// The page below the entry at an index, of an index page.
+/// The page below the entry at an index, of an index page. Of other bytes, and past the entries, it
+/// answers some number.
 pub fn child_of(page: &[u8; PAGE_BYTES], index: usize) -> u32
-    requires page { IsPage page.now }
-    requires index { is_leaf (page_head_of page.now) ≡ false }
-    requires within { index < length (entries_of page.now) }
-    ensures { result ≡ child_number (page_entry_at (entries_of page.now) index) }
-{
-    u32_at(page, slot_at(page, index) + 2)
-}
-
-/// The value of row i of a row leaf.
-pub fn value_of(page: &[u8; PAGE_BYTES], index: usize) -> &[u8]
-    requires page { IsPage page.now }
-    requires leaf { is_leaf (page_head_of page.now) ≡ true }
-    requires within { index < length (entries_of page.now) }
-    ensures { result.now ≡ (page_entry_at (entries_of page.now) index).rest }
+    ensures { IsPage page.now → is_leaf (page_head_of page.now) ≡ false
+        → index < length (entries_of page.now)
+        → result ≡ child_number (page_entry_at (entries_of page.now) index) }
 {
     let at = slot_at(page, index);
-    let key_len = u16_at(page, at) as usize;
-    let value_len = u16_at(page, at + 2) as usize;
-    let (_, back) = page.split_at(at + 6 + key_len);
-    back.split_at(value_len).0
+    if at > PAGE_BYTES - 6 {
+        return 0;
+    }
+    u32_at(page, at + 2)
+}
+
+/// The value of row i of a row leaf. Of other bytes, and past the rows, it answers some of them, or
+/// none.
+pub fn value_of(page: &[u8; PAGE_BYTES], index: usize) -> &[u8]
+    ensures { IsPage page.now → is_leaf (page_head_of page.now) ≡ true
+        → index < length (entries_of page.now)
+        → result.now ≡ (page_entry_at (entries_of page.now) index).rest }
+{
+    let at = slot_at(page, index);
+    let key_len = two_at(page, at);
+    let value_len = two_at(page, at + 2);
+    let start = at + 6 + key_len;
+    bytes_to(page, start, start + value_len)
 }
 
 /// Moves the entries from place `at` on to a page of the same kind that has none.
@@ -237,7 +285,7 @@ pub fn split(from: &mut [u8; PAGE_BYTES], to: &mut [u8; PAGE_BYTES], at: usize)
 {
     let count = count_of(from);
     let size = cells_used(from) - 2 * count;
-    let place = place_of(from, at);
+    let place = start_of(from, at) - HEAD_BYTES;
     let (from_head, from_body) = from.split_at_mut(HEAD_BYTES);
     let (to_head, to_body) = to.split_at_mut(HEAD_BYTES);
     split_cells(from_body, to_body, count, at, place, size);

@@ -17,7 +17,7 @@ pub const HEAD_BYTES: usize = PAGE_BYTES - PAGE_ROOM;
 /// Writes the cell of a row.
 #[tactic(auto, unfolding(crate::specs::Entries::cell_of))]
 pub fn write_row(into: &mut [u8], key: &[u8], rest: &[u8])
-    requires kept { KeepsEntry true (record { key = key.now; rest = rest.now }) }
+    requires short { (length key.now < 2 ^ 16) × (length rest.now < 2 ^ 16) }
     requires room { length into.old ≡ cell_len true (record { key = key.now; rest = rest.now }) }
     ensures { into.new ≡ cell_of true (record { key = key.now; rest = rest.now }) }
 {
@@ -35,12 +35,12 @@ pub fn write_row(into: &mut [u8], key: &[u8], rest: &[u8])
 /// Writes the cell of a separator and its child.
 #[tactic(auto, unfolding(crate::specs::Entries::cell_of))]
 pub fn write_child(into: &mut [u8], key: &[u8], rest: &[u8])
-    requires kept { KeepsEntry false (record { key = key.now; rest = rest.now }) }
+    requires short { length key.now < 2 ^ 16 }
     requires room { length into.old ≡ cell_len false (record { key = key.now; rest = rest.now }) }
     ensures { into.new ≡ cell_of false (record { key = key.now; rest = rest.now }) }
 {
     let (key_len, back) = into.split_at_mut(2);
-    let (child, body) = back.split_at_mut(4);
+    let (child, body) = back.split_at_mut(rest.len());
     BigEndian::write_u16(key_len, key.len() as u16);
     child.copy_from_slice(rest);
     body.copy_from_slice(key);
@@ -48,7 +48,7 @@ pub fn write_child(into: &mut [u8], key: &[u8], rest: &[u8])
 
 /// Writes the cell of an entry.
 pub fn write_cell(into: &mut [u8], leaf: bool, key: &[u8], rest: &[u8])
-    requires kept { KeepsEntry leaf (record { key = key.now; rest = rest.now }) }
+    requires short { (length key.now < 2 ^ 16) × (length rest.now < 2 ^ 16) }
     requires room { length into.old ≡ cell_len leaf (record { key = key.now; rest = rest.now }) }
     ensures { into.new ≡ cell_of leaf (record { key = key.now; rest = rest.now }) }
 {
@@ -61,7 +61,7 @@ pub fn write_cell(into: &mut [u8], leaf: bool, key: &[u8], rest: &[u8])
 
 /// Puts a cell in at a place; as many bytes fall off at the end.
 pub fn open_cell(part: &mut [u8], at: usize, size: usize, leaf: bool, key: &[u8], rest: &[u8])
-    requires kept { KeepsEntry leaf (record { key = key.now; rest = rest.now }) }
+    requires short { (length key.now < 2 ^ 16) × (length rest.now < 2 ^ 16) }
     requires size { size ≡ cell_len leaf (record { key = key.now; rest = rest.now }) }
     requires room { at + size ≤ length part.old }
     ensures { part.new
@@ -114,19 +114,19 @@ pub fn write_head(head: &mut [u8], kind: u8, level: u8, table: u16, own: u32)
     zeros.fill(0);
 }
 
-/// Makes the slots of cells that begin at one place those of the same cells at another place.
+/// Makes the slots of cells that begin at one place those of the same cells at another place. Each
+/// number of two bytes moves by as much, and wraps.
 pub fn move_slots(part: &mut [u8], from: usize, to: usize)
-    requires { (cs : List (List ℕ)) × (part.old ≡ slots from cs)
-        × (from + length (joined_cells cs) < 2 ^ 16)
-        × (to + length (joined_cells cs) < 2 ^ 16) }
+    requires { (from < 2 ^ 16) × (to < 2 ^ 16) }
     ensures { (cs : List (List ℕ)) → part.old ≡ slots from cs
         → from + length (joined_cells cs) < 2 ^ 16
         → to + length (joined_cells cs) < 2 ^ 16 → part.new ≡ slots to cs }
 {
+    let by = (to as u16).wrapping_sub(from as u16);
     let count = part.len() / 2;
     for k in 0..count {
         let place = 2 * (count - k - 1);
-        let old = u16_at(part, place) as usize;
-        write_two(part, place, (old - from + to) as u16);
+        let old = u16_at(part, place);
+        write_two(part, place, old.wrapping_add(by));
     }
 }

@@ -7,6 +7,7 @@ use Rattle.leaf_runs.proofs.Gets.{table_limits, has_leaves, no_leaves, row_there
 use Rattle.leaf_runs.proofs.RowCosts.{cost_none, cost_some}
 use Rattle.leaf_runs.proofs.NewRuns.{whole_run, whole_on, new_on}
 use Rattle.leaf_runs.proofs.Changes.{entry_ready, new_runs, new_others, others_same, removed_map, removed_absent, runs_same}
+use Rattle.leaf_runs.proofs.Places.{catalogue_some}
 use Rattle.leaf_runs.proofs.changing.del.Goals as goal
 
 -- No leaves
@@ -15,7 +16,7 @@ pub returns-then-entry-eq0-clause-found : goal.returns-then-entry-eq0-clause-fou
 returns-then-entry-eq0-clause-found g c = λ known r.
     let m = g.P.Pages.pages c.args.pages.now in
     let t = table_limits c.args.table.0 c.requires.table in
-    let whole = whole_run m r c.args.table.0 c.in_ok-entry.entry t.0 t.1 (c.in_ok-entry.ensures.entry known) in
+    let whole = whole_run m r c.args.table.0 c.in_ok-entry.entry t.0 t.1 (c.in_ok-entry.ensures.entry known (catalogue_some m r)) in
     sym (ap is_some (row_there m r c.args.table.0 c.args.key.now t.0 t.1 ∙ ap (find by_bytes c.args.key.now) (no_leaves m c.args.table.0 c.in_ok-entry.entry (r.runs c.args.table.0) whole.run c.if-entry-eq0.true)))
 
 pub returns-then-entry-eq0-clause-gone : goal.returns-then-entry-eq0-clause-gone
@@ -24,7 +25,7 @@ returns-then-entry-eq0-clause-gone g c = λ known r.
     let m1 = g.P.Pages.pages c.read_entry.new.pages in
     let t = table_limits c.args.table.0 c.requires.table in
     let one = c.in_ok-entry.ensures.same known in
-    let whole = whole_run m r c.args.table.0 c.in_ok-entry.entry t.0 t.1 (c.in_ok-entry.ensures.entry known) in
+    let whole = whole_run m r c.args.table.0 c.in_ok-entry.entry t.0 t.1 (c.in_ok-entry.ensures.entry known (catalogue_some m r)) in
     let none : get (rows_in_pages m) (c.args.table.0, c.args.key.now) ≡ None =
     row_there m r c.args.table.0 c.args.key.now t.0 t.1 ∙ ap (find by_bytes c.args.key.now) (no_leaves m c.args.table.0 c.in_ok-entry.entry (r.runs c.args.table.0) whole.run c.if-entry-eq0.true) in
     record {
@@ -41,7 +42,7 @@ returns-then-found-eq0-clause-found g c = λ known r.
     let m1 = g.P.Pages.pages c.read_entry.new.pages in
     let t = table_limits c.args.table.0 c.requires.table in
     let one = c.in_ok-entry.ensures.same known in
-    let whole = whole_run m r c.args.table.0 c.in_ok-entry.entry t.0 t.1 (c.in_ok-entry.ensures.entry known) in
+    let whole = whole_run m r c.args.table.0 c.in_ok-entry.entry t.0 t.1 (c.in_ok-entry.ensures.entry known (catalogue_some m r)) in
     let some = has_leaves m c.args.table.0 c.in_ok-entry.entry (r.runs c.args.table.0) whole.run c.if-entry-eq0.false in
     let found = c.in_ok-found.ensures.found one.0 (r.runs c.args.table.0) (run_on m m1 c.args.table.0 c.in_ok-entry.entry (r.runs c.args.table.0) one.1 whole.run) some in
     sym (ap is_some (row_there m r c.args.table.0 c.args.key.now t.0 t.1 ∙ cost_none c.args.key.now (find by_bytes c.args.key.now (run_rows (r.runs c.args.table.0))) (sym found.cost_is ∙ c.if-found-eq0.true)))
@@ -53,7 +54,7 @@ returns-then-found-eq0-clause-gone g c = λ known r.
     let m2 = g.P.Pages.pages c.find_row.new.pages in
     let t = table_limits c.args.table.0 c.requires.table in
     let one = c.in_ok-entry.ensures.same known in
-    let whole = whole_run m r c.args.table.0 c.in_ok-entry.entry t.0 t.1 (c.in_ok-entry.ensures.entry known) in
+    let whole = whole_run m r c.args.table.0 c.in_ok-entry.entry t.0 t.1 (c.in_ok-entry.ensures.entry known (catalogue_some m r)) in
     let some = has_leaves m c.args.table.0 c.in_ok-entry.entry (r.runs c.args.table.0) whole.run c.if-entry-eq0.false in
     let found = c.in_ok-found.ensures.found one.0 (r.runs c.args.table.0) (run_on m m1 c.args.table.0 c.in_ok-entry.entry (r.runs c.args.table.0) one.1 whole.run) some in
     let two = c.in_ok-found.ensures.same one.0 in
@@ -79,7 +80,7 @@ returns-in_err-changed-clause-cause g c =
     let r = k.1 in
     let t = table_limits c.args.table.0 c.requires.table in
     let one = c.in_ok-entry.ensures.same k.0 in
-    let whole = whole_run m r c.args.table.0 c.in_ok-entry.entry t.0 t.1 (c.in_ok-entry.ensures.entry k.0) in
+    let whole = whole_run m r c.args.table.0 c.in_ok-entry.entry t.0 t.1 (c.in_ok-entry.ensures.entry k.0 (catalogue_some m r)) in
     let some = has_leaves m c.args.table.0 c.in_ok-entry.entry (r.runs c.args.table.0) whole.run c.if-entry-eq0.false in
     let found = c.in_ok-found.ensures.found one.0 (r.runs c.args.table.0) (run_on m m1 c.args.table.0 c.in_ok-entry.entry (r.runs c.args.table.0) one.1 whole.run) some in
     let two = c.in_ok-found.ensures.same one.0 in
@@ -102,7 +103,7 @@ returns-in_err-write_entry-clause-cause g c =
     let r = k.1 in
     let t = table_limits c.args.table.0 c.requires.table in
     let one = c.in_ok-entry.ensures.same k.0 in
-    let whole = whole_run m r c.args.table.0 c.in_ok-entry.entry t.0 t.1 (c.in_ok-entry.ensures.entry k.0) in
+    let whole = whole_run m r c.args.table.0 c.in_ok-entry.entry t.0 t.1 (c.in_ok-entry.ensures.entry k.0 (catalogue_some m r)) in
     let some = has_leaves m c.args.table.0 c.in_ok-entry.entry (r.runs c.args.table.0) whole.run c.if-entry-eq0.false in
     let found = c.in_ok-found.ensures.found one.0 (r.runs c.args.table.0) (run_on m m1 c.args.table.0 c.in_ok-entry.entry (r.runs c.args.table.0) one.1 whole.run) some in
     let two = c.in_ok-found.ensures.same one.0 in
@@ -122,7 +123,7 @@ returns-clause-found g c = λ known r.
     let m1 = g.P.Pages.pages c.read_entry.new.pages in
     let t = table_limits c.args.table.0 c.requires.table in
     let one = c.in_ok-entry.ensures.same known in
-    let whole = whole_run m r c.args.table.0 c.in_ok-entry.entry t.0 t.1 (c.in_ok-entry.ensures.entry known) in
+    let whole = whole_run m r c.args.table.0 c.in_ok-entry.entry t.0 t.1 (c.in_ok-entry.ensures.entry known (catalogue_some m r)) in
     let some = has_leaves m c.args.table.0 c.in_ok-entry.entry (r.runs c.args.table.0) whole.run c.if-entry-eq0.false in
     let found = c.in_ok-found.ensures.found one.0 (r.runs c.args.table.0) (run_on m m1 c.args.table.0 c.in_ok-entry.entry (r.runs c.args.table.0) one.1 whole.run) some in
     sym (ap is_some (row_there m r c.args.table.0 c.args.key.now t.0 t.1) ∙ cost_some c.args.key.now (find by_bytes c.args.key.now (run_rows (r.runs c.args.table.0))) (λ none. c.if-found-eq0.false (found.cost_is ∙ none)))
@@ -136,14 +137,14 @@ returns-clause-gone g c = λ known r.
     let m4 = g.P.Pages.pages c.write_entry.new.pages in
     let t = table_limits c.args.table.0 c.requires.table in
     let one = c.in_ok-entry.ensures.same known in
-    let whole = whole_run m r c.args.table.0 c.in_ok-entry.entry t.0 t.1 (c.in_ok-entry.ensures.entry known) in
+    let whole = whole_run m r c.args.table.0 c.in_ok-entry.entry t.0 t.1 (c.in_ok-entry.ensures.entry known (catalogue_some m r)) in
     let some = has_leaves m c.args.table.0 c.in_ok-entry.entry (r.runs c.args.table.0) whole.run c.if-entry-eq0.false in
     let found = c.in_ok-found.ensures.found one.0 (r.runs c.args.table.0) (run_on m m1 c.args.table.0 c.in_ok-entry.entry (r.runs c.args.table.0) one.1 whole.run) some in
     let two = c.in_ok-found.ensures.same one.0 in
     let new =
     new_on m m2 m3 c.args.table.0 _ c.in_ok-changed.changed (two.1 ∙ one.1)
     (c.in_ok-changed.ensures.made two.0 (r.runs c.args.table.0) (whole_on m m2 c.args.table.0 c.in_ok-entry.entry (r.runs c.args.table.0) (two.1 ∙ one.1) whole) found) in
-    let set = c.in_ok-write_entry.ensures.set (c.in_ok-changed.ensures.known two.0) in
+    let set = c.in_ok-write_entry.ensures.set (c.in_ok-changed.ensures.known two.0) (entry_ready m m3 r c.args.table.0 t.0 t.1 _ c.in_ok-changed.changed new).0 in
     record {
       runs = new_runs m m3 r c.args.table.0 t.0 t.1 _ c.in_ok-changed.changed new m4 set;
       rows = removed_map m m3 r c.args.table.0 t.0 t.1 _ c.in_ok-changed.changed new m4 set c.args.key.now refl;

@@ -23,7 +23,8 @@ returns-clause-found g c = λ known leaves run some.
     let m = g.P.Pages.pages c.args.pages.now in
     let one = c.in_ok-spot.ensures.same known in
     let spot = c.in_ok-spot.ensures.found known leaves run some in
-    let cost = c.in_ok-cost.ensures.cost one.0 in record {
+    let has = leaf_on_same m _ c.args.table.0 c.in_ok-spot.spot.page one.1 (spot_leaf m c.args.table.0 c.args.entry leaves run c.args.key.now c.in_ok-spot.spot.before c.in_ok-spot.spot.page spot) in
+    let cost = c.in_ok-cost.ensures.cost one.0 has in record {
       spot = spot;
       cost_is = cost.2 ∙ ap (value_cost c.args.key.now) (spot_row m c.args.table.0 c.args.entry leaves run c.args.key.now c.in_ok-spot.spot.before c.in_ok-spot.spot.page spot cost.0
           (subst (λ (p : PageBytes). leaf_at p c.in_ok-spot.spot.page ≡ Some cost.0) one.1 cost.1));

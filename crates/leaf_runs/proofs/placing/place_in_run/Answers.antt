@@ -1,6 +1,6 @@
 use Rattle.std.proofs.Common.{true, false, arith}
 use Rattle.leaf_runs.proofs.Causes.{cause_through}
-use Rattle.leaf_runs.proofs.PlacedRows.{has_spot, has_named, live_some, put_as, placed_whole, left_named, are_halves, placed_split}
+use Rattle.leaf_runs.proofs.PlacedRows.{has_spot, here_leaf, has_named, live_some, put_as, placed_whole, left_named, are_halves, placed_split}
 use Rattle.leaf_runs.proofs.placing.place_in_run.Goals as goal
 
 pub returns-in_err-put_on_leaf-clause-cause : goal.returns-in_err-put_on_leaf-clause-cause
@@ -13,7 +13,7 @@ pub returns-then-branch-clause-placed : goal.returns-then-branch-clause-placed
 returns-then-branch-clause-placed g c = λ known lives front here back run same round.
     let p0 = g.P.Pages.pages c.args.pages.now in
     let p1 = g.P.Pages.pages c.put_on_leaf.new.pages in
-    let p = c.in_ok-put_on_leaf.ensures.put known in
+    let p = c.in_ok-put_on_leaf.ensures.put known (here_leaf p0 c.args.table.0 c.args.page front here back run same) in
     placed_whole p0 c.args.table.0 c.args.page front here back run same p1 p.0 c.args.key.now c.args.value.now round p.1
     (put_as c.in_ok-put_on_leaf.field-0 true p0 p1 c.args.page p.0 c.args.key.now c.args.value.now c.if-branch.true p.2)
 
@@ -26,7 +26,7 @@ returns-in_err-other-clause-cause g c =
     let p0 = g.P.Pages.pages c.args.pages.now in
     let p1 = g.P.Pages.pages c.put_on_leaf.new.pages in
     let s = k.1 in
-    let p = c.in_ok-put_on_leaf.ensures.put k.0 in
+    let p = c.in_ok-put_on_leaf.ensures.put k.0 (has_spot p0 c.args.table.0 c.args.page c.args.key.now s) in
     let miss = put_as c.in_ok-put_on_leaf.field-0 false p0 p1 c.args.page p.0 c.args.key.now c.args.value.now c.if-branch.false p.2 in
     h.whole (
       c.in_ok-put_on_leaf.ensures.known k.0,
@@ -47,7 +47,7 @@ returns-in_err-put_on_either-clause-cause g c =
     let key = c.args.key.now in
     let value = c.args.value.now in
     let s = k.1 in
-    let p = c.in_ok-put_on_leaf.ensures.put k.0 in
+    let p = c.in_ok-put_on_leaf.ensures.put k.0 (has_spot p0 c.args.table.0 c.args.page c.args.key.now s) in
     let miss = put_as c.in_ok-put_on_leaf.field-0 false p0 p1 page p.0 key value c.if-branch.false p.2 in
     let known1 = c.in_ok-put_on_leaf.ensures.known k.0 in
     let cut = c.in_ok-other.ensures.cut known1 _ (left_named p0 p1 table page s.front s.here s.back s.run s.page_is key value p.0 p.1 miss.0) in
@@ -68,7 +68,7 @@ returns-clause-placed g c = λ known lives front here back run same round.
     let other = c.in_ok-other.other in
     let key = c.args.key.now in
     let value = c.args.value.now in
-    let p = c.in_ok-put_on_leaf.ensures.put known in
+    let p = c.in_ok-put_on_leaf.ensures.put known (here_leaf p0 c.args.table.0 c.args.page front here back run same) in
     let miss = put_as c.in_ok-put_on_leaf.field-0 false p0 p1 page p.0 key value c.if-branch.false p.2 in
     let known1 = c.in_ok-put_on_leaf.ensures.known known in
     let cut = c.in_ok-other.ensures.cut known1 _ (left_named p0 p1 table page front here back run same key value p.0 p.1 miss.0) in

@@ -19,15 +19,20 @@ returns-in_err-sight-clause-cause g c =
 pub returns-then-sight-clause-found : goal.returns-then-sight-clause-found
 returns-then-sight-clause-found g c = λ known leaves run some.
     let s = c.loop.invariant.same known in
+    let walk = c.loop.invariant.walk leaves run some known in
+    let here = walk_leaf (g.P.Pages.pages c.args.pages.now) c.args.table.0 c.args.entry leaves c.args.key.now run c.loop.before c.loop.page c.loop.counter walk in
+    let has = subst (λ (p : PageBytes). HasRunLeaf p c.args.table.0 c.loop.page) (sym s.1) here in
     walk_ends (g.P.Pages.pages c.args.pages.now) c.args.table.0 c.args.entry leaves c.args.key.now run c.loop.before c.loop.page c.loop.counter
-    (c.loop.invariant.walk leaves run some known) c.in_ok-sight.sight (subst (λ (p : PageBytes). IsSeen p c.loop.page c.args.key.now c.in_ok-sight.sight) s.1 (c.in_ok-sight.ensures.seen s.0)) c.if-sight.true
+    (c.loop.invariant.walk leaves run some known) c.in_ok-sight.sight (subst (λ (p : PageBytes). IsSeen p c.loop.page c.args.key.now c.in_ok-sight.sight) s.1 (c.in_ok-sight.ensures.seen s.0 has)) c.if-sight.true
 
 pub loop-preserved : goal.loop-preserved
 loop-preserved g c = record {
   same = λ known. (let s = c.loop.invariant.same known in let t = c.in_ok-sight.ensures.same s.0 in (t.0, t.1 ∙ s.1));
   walk = λ leaves run some known. (let s = c.loop.invariant.same known in
+      let here = walk_leaf (g.P.Pages.pages c.args.pages.now) c.args.table.0 c.args.entry leaves c.args.key.now run c.loop.before c.loop.page c.loop.counter (c.loop.invariant.walk leaves run some known) in
+      let has = subst (λ (p : PageBytes). HasRunLeaf p c.args.table.0 c.loop.page) (sym s.1) here in
       walk_on (g.P.Pages.pages c.args.pages.now) c.args.table.0 c.args.entry leaves c.args.key.now run c.loop.before c.loop.page c.loop.counter
-      (c.loop.invariant.walk leaves run some known) c.in_ok-sight.sight (subst (λ (p : PageBytes). IsSeen p c.loop.page c.args.key.now c.in_ok-sight.sight) s.1 (c.in_ok-sight.ensures.seen s.0)) c.if-sight.false);
+      (c.loop.invariant.walk leaves run some known) c.in_ok-sight.sight (subst (λ (p : PageBytes). IsSeen p c.loop.page c.args.key.now c.in_ok-sight.sight) s.1 (c.in_ok-sight.ensures.seen s.0 has)) c.if-sight.false);
   spare = omega (arith, c.loop.invariant.spare, c.look.ensures.spare);
   faults = omega (arith, c.loop.invariant.faults, c.look.ensures.cause.later);
   follows = search rules;

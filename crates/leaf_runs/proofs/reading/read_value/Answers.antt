@@ -1,11 +1,9 @@
-use Rattle.mdb_bytes.proofs.Booleans.{passed}
-use Rattle.leaf_runs.proofs.Places.{leaf_there}
+use Rattle.leaf_runs.proofs.Places.{leaf_there, run_leaf_here}
 use Rattle.leaf_runs.proofs.reading.read_value.Goals as goal
 
-pub copy_value-requires : goal.copy_value-requires
-copy_value-requires g c = let l = passed c.is_run_leaf.ensures c.if-not-is_run_leaf.false in (l.leaf, l.there)
-
 pub returns-clause-found : goal.returns-clause-found
-returns-clause-found g c = λ known.
-    let l = passed c.is_run_leaf.ensures c.if-not-is_run_leaf.false in
-    (l.leaf, leaf_there (g.P.Pages.pages c.args.pages.now) c.args.page c.in_ok-bytes.bytes.now l.leaf (c.in_ok-bytes.ensures.bytes known) l.there, c.copy_value.ensures l.leaf l.there)
+returns-clause-found g c = λ known has.
+    let m = g.P.Pages.pages c.args.pages.now in
+    let there = c.in_ok-bytes.ensures.bytes known in
+    let l = run_leaf_here m c.args.table.0 c.args.page c.in_ok-bytes.bytes.now there has in
+    (l.leaf, leaf_there m c.args.page c.in_ok-bytes.bytes.now l.leaf there l.there, c.copy_value.ensures l.leaf l.there)

@@ -16,10 +16,10 @@ append_cells-requires-clause-cells c =
     let m : length c.split_at.result.1.now ≡ 8128 = omega (arith, c.split_at.ensures.back_len) in (
       cells_of p,
       cells_of q,
-      has_cells p c.split_at_mut-head.result.1.now (page_head_of p) (entries_of p) c.count_of-count.result _ c.requires.into c.split_at_mut-head.ensures.back l c.count_of-count.ensures
-          (ap (λ (n : ℕ). n - 2 * c.count_of-count.result) c.cells_used-total.ensures),
-      has_cells q c.split_at.result.1.now (page_head_of q) (entries_of q) c.count_of-other_count.result _ c.requires.from c.split_at.ensures.back m c.count_of-other_count.ensures
-          (ap (λ (n : ℕ). n - 2 * c.count_of-other_count.result) c.cells_used-other_total.ensures),
+      has_cells p c.split_at_mut-head.result.1.now (page_head_of p) (entries_of p) c.count_of-count.result _ c.requires.into c.split_at_mut-head.ensures.back l (c.count_of-count.ensures.count c.requires.into)
+          (ap (λ (n : ℕ). n - 2 * c.count_of-count.result) (c.cells_used-total.ensures.used c.requires.into)),
+      has_cells q c.split_at.result.1.now (page_head_of q) (entries_of q) c.count_of-other_count.result _ c.requires.from c.split_at.ensures.back m (c.count_of-other_count.ensures.count c.requires.from)
+          (ap (λ (n : ℕ). n - 2 * c.count_of-other_count.result) (c.cells_used-other_total.ensures.used c.requires.from)),
       omega (arith, c.requires.room, l, used_cells (is_leaf (page_head_of p)) (entries_of p), used_cells (is_leaf (page_head_of q)) (entries_of q)),
     )
 
@@ -32,10 +32,10 @@ returns-clause-first c =
     let ys = entries_of q in
     let l : length c.split_at_mut-head.result.1.now ≡ 8128 = omega (arith, c.split_at_mut-head.ensures.back_len) in
     let m : length c.split_at.result.1.now ≡ 8128 = omega (arith, c.split_at.ensures.back_len) in
-    let a = has_cells p c.split_at_mut-head.result.1.now h xs c.count_of-count.result _ c.requires.into c.split_at_mut-head.ensures.back l c.count_of-count.ensures
-    (ap (λ (n : ℕ). n - 2 * c.count_of-count.result) c.cells_used-total.ensures) in
-    let b = has_cells q c.split_at.result.1.now (page_head_of q) ys c.count_of-other_count.result _ c.requires.from c.split_at.ensures.back m c.count_of-other_count.ensures
-    (ap (λ (n : ℕ). n - 2 * c.count_of-other_count.result) c.cells_used-other_total.ensures) in
+    let a = has_cells p c.split_at_mut-head.result.1.now h xs c.count_of-count.result _ c.requires.into c.split_at_mut-head.ensures.back l (c.count_of-count.ensures.count c.requires.into)
+    (ap (λ (n : ℕ). n - 2 * c.count_of-count.result) (c.cells_used-total.ensures.used c.requires.into)) in
+    let b = has_cells q c.split_at.result.1.now (page_head_of q) ys c.count_of-other_count.result _ c.requires.from c.split_at.ensures.back m (c.count_of-other_count.ensures.count c.requires.from)
+    (ap (λ (n : ℕ). n - 2 * c.count_of-other_count.result) (c.cells_used-other_total.ensures.used c.requires.from)) in
     let same : is_leaf (page_head_of q) ≡ is_leaf h = c.requires.kinds in
     let cs : cells (is_leaf h) xs ++ cells (is_leaf (page_head_of q)) ys ≡ cells (is_leaf h) (xs ++ ys) =
     ap (λ (k : Bool). cells (is_leaf h) xs ++ cells k ys) same ∙ sym (map-append (cell_of (is_leaf h)) xs ys) in
@@ -48,4 +48,4 @@ returns-clause-first c =
     becomes p _ (xs ++ ys) (shown c.split_at_mut-head.result.0.now c.write_two.new.part c.write_two-2.new.part c.append_cells.new.body h xs (xs ++ ys)
     (c.count_of-count.result + c.count_of-other_count.result) (c.cells_used-total.result + c.cells_used-other_total.result)
     c.requires.into.head all (c.split_at_mut-head.ensures.front ∙ (page_parts p h xs c.requires.into).0) c.write_two.ensures c.write_two-2.ensures
-    (omega (arith, length-append xs ys, c.count_of-count.ensures, c.count_of-other_count.ensures)) (omega (arith, u, c.cells_used-total.ensures, c.cells_used-other_total.ensures)) made)
+    (omega (arith, length-append xs ys, (c.count_of-count.ensures.count c.requires.into), (c.count_of-other_count.ensures.count c.requires.from))) (omega (arith, u, (c.cells_used-total.ensures.used c.requires.into), (c.cells_used-other_total.ensures.used c.requires.from))) made)

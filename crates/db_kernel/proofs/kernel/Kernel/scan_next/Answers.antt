@@ -61,14 +61,16 @@ returns-in-Err-clause-takes g c =
     let d1 = g.H.Host.disk c.scan_next.new.host in
     let f0 = g.H.Host.faults c.args.host.now in
     let f1 = g.H.Host.faults c.scan_next.new.host in
-    subst (λ (r : Refusal). TakesRow g.H.Host.tells d0 d1 f0 f1 c.args.self.now.database None (Fault (Refused r))) (sym c.refusal_of.ensures)
-    (fault_takes g.H.Host.tells d0 d1 f0 f1 c.args.self.now.database c.in-Err.fault c.scan_next.ensures.keeps c.scan_next.ensures.later (λ is. c.scan_next.ensures.cause (c.in-Err.is ∙ ap Err is)))
+    subst (λ (n : Option Database). TakesRow g.H.Host.tells d0 d1 f0 f1 c.args.self.now.database n (Fault (Refused c.refusal_of.result))) (sym c.turn_off.ensures)
+    (subst (λ (r : Refusal). TakesRow g.H.Host.tells d0 d1 f0 f1 c.args.self.now.database None (Fault (Refused r))) (sym c.refusal_of.ensures)
+    (fault_takes g.H.Host.tells d0 d1 f0 f1 c.args.self.now.database c.in-Err.fault c.scan_next.ensures.keeps c.scan_next.ensures.later (λ is. c.scan_next.ensures.cause (c.in-Err.is ∙ ap Err is))))
 
 pub returns-in-Err-clause-reads : goal.returns-in-Err-clause-reads
 returns-in-Err-clause-reads g c told ws fit stand =
     let d0 = g.H.Host.disk c.args.host.now in
     let d1 = g.H.Host.disk c.scan_next.new.host in
     let here = fit_told g.H.Host.tells told c.in-Some.database d0 ws (subst (λ (o : Option Database). FitsWorlds o d0 ws) c.in-Some.is fit) in
-    subst (λ (r : Refusal). ReadsRow d0 d1 ws c.args.self.now.database None c.args.session c.args.table c.args.after.now.items c.scan_next.new.key.items c.scan_next.new.value.items (Fault (Refused r))) (sym c.refusal_of.ensures)
+    subst (λ (n : Option Database). ReadsRow d0 d1 ws c.args.self.now.database n c.args.session c.args.table c.args.after.now.items c.scan_next.new.key.items c.scan_next.new.value.items (Fault (Refused c.refusal_of.result))) (sym c.turn_off.ensures)
+    (subst (λ (r : Refusal). ReadsRow d0 d1 ws c.args.self.now.database None c.args.session c.args.table c.args.after.now.items c.scan_next.new.key.items c.scan_next.new.value.items (Fault (Refused r))) (sym c.refusal_of.ensures)
     (subst (λ (o : Option Database). ReadsRow d0 d1 ws o None c.args.session c.args.table c.args.after.now.items c.scan_next.new.key.items c.scan_next.new.value.items (Fault (Refused (page_refusal c.in-Err.fault)))) (sym c.in-Some.is)
-    (read_failed g.H.Host.tells told d0 d1 ws c.in-Some.database c.scan_next.new.self c.args.session c.args.table c.args.after.now.items c.scan_next.new.key.items c.scan_next.new.value.items here c.in-Err.fault (c.in-Err.ensures.reads told ws here)))
+    (read_failed g.H.Host.tells told d0 d1 ws c.in-Some.database c.scan_next.new.self c.args.session c.args.table c.args.after.now.items c.scan_next.new.key.items c.scan_next.new.value.items here c.in-Err.fault (c.in-Err.ensures.reads told ws here))))

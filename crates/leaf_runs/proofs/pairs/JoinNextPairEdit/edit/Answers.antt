@@ -3,15 +3,9 @@ use Rattle.mdb_bytes.proofs.Booleans.{passed}
 use Rattle.row_page.specs.Entries.{page_head_of, is_leaf}
 use Rattle.leaf_runs.proofs.LeafLaw.{leaf_page_of}
 use Rattle.leaf_runs.proofs.LeafReads.{leaf_is, next_is}
-use Rattle.leaf_runs.proofs.LeafEdits.{named_page, cost_small, joined_by, below_each, too_full}
+use Rattle.leaf_runs.proofs.LeafEdits.{named_page, joined_by, below_each, too_full}
 use Rattle.leaf_runs.proofs.RowLists.{from_true}
 use Rattle.leaf_runs.proofs.pairs.JoinNextPairEdit.edit.Goals as goal
-
-pub used_of-requires : goal.used_of-requires
-used_of-requires c = (named_page _ _ _ (passed c.is_leaf_of.ensures c.if-not-is_leaf_of.false)).1.page
-
-pub used_of-requires-2 : goal.used_of-requires-2
-used_of-requires-2 c = (named_page _ _ _ (passed c.is_leaf_of-2.ensures c.if-not-is_leaf_of-2.false)).1.page
 
 pub merge-requires-clause-into : goal.merge-requires-clause-into
 merge-requires-clause-into c = (named_page _ _ _ (passed c.is_leaf_of.ensures c.if-not-is_leaf_of.false)).1.page
@@ -35,15 +29,15 @@ merge-requires-clause-below c =
     let b = m.1 in
     below_each c.args.a.now c.args.b.now l.0 m.0 a.0 b.0 (from_true _ (sym (c.keys_ascend.ensures l.0 m.0 a.0 b.0) ∙ c.if-not-keys_ascend.false))
 
-pub overflow_add-used_of : goal.overflow_add-used_of
-overflow_add-used_of c =
-    let a = cost_small _ (named_page _ _ _ (passed c.is_leaf_of.ensures c.if-not-is_leaf_of.false)).1.page in
-    let b = cost_small _ (named_page _ _ _ (passed c.is_leaf_of-2.ensures c.if-not-is_leaf_of-2.false)).1.page in
-    omega (arith, c.used_of.ensures, c.used_of-2.ensures)
+pub merge-requires-clause-room : goal.merge-requires-clause-room
+merge-requires-clause-room c =
+    let a = (named_page _ _ _ (passed c.is_leaf_of.ensures c.if-not-is_leaf_of.false)).1.page in
+    let b = (named_page _ _ _ (passed c.is_leaf_of-2.ensures c.if-not-is_leaf_of-2.false)).1.page in
+    omega (arith, c.used_of.ensures.used a, c.used_of-2.ensures.used b, c.if-used_of-gt-PAGE_ROOM.false)
 
 pub returns-then-used_of-gt-PAGE_ROOM : goal.returns-then-used_of-gt-PAGE_ROOM
 returns-then-used_of-gt-PAGE_ROOM c = λ leaf next na nb up fits.
-    absurd (too_full c.args.a.now c.args.b.now leaf next c.used_of.result c.used_of-2.result na.0 nb.0 c.used_of.ensures c.used_of-2.ensures (omega (arith, c.if-used_of-gt-PAGE_ROOM.true)) fits)
+    absurd (too_full c.args.a.now c.args.b.now leaf next c.used_of.result c.used_of-2.result na.0 nb.0 (c.used_of.ensures.used (leaf_page_of c.args.a.now leaf na.0).page) (c.used_of-2.ensures.used (leaf_page_of c.args.b.now next nb.0).page) (omega (arith, c.if-used_of-gt-PAGE_ROOM.true)) fits)
 
 pub returns : goal.returns
 returns c = λ leaf next na nb up fits.

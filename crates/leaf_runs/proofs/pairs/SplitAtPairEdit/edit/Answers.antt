@@ -6,17 +6,21 @@ use Rattle.leaf_runs.proofs.LeafReads.{leaf_is}
 use Rattle.leaf_runs.proofs.LeafEdits.{named_page, number_small, split_first, split_second, too_far, not_blank}
 use Rattle.leaf_runs.proofs.pairs.SplitAtPairEdit.edit.Goals as goal
 
-pub count_of-requires : goal.count_of-requires
-count_of-requires c = (named_page _ _ _ (passed c.is_leaf_of.ensures c.if-not-is_leaf_of.false)).1.page
-
-pub count_of-requires-2 : goal.count_of-requires-2
-count_of-requires-2 c = (named_page _ _ _ (passed c.is_leaf_of-2.ensures c.if-not-is_leaf_of-2.false)).1.page
-
 pub split-requires-clause-from : goal.split-requires-clause-from
 split-requires-clause-from c = (named_page _ _ _ (passed c.is_leaf_of.ensures c.if-not-is_leaf_of.false)).1.page
 
 pub split-requires-clause-to : goal.split-requires-clause-to
 split-requires-clause-to c = (named_page _ _ _ (passed c.is_leaf_of-2.ensures c.if-not-is_leaf_of-2.false)).1.page
+
+pub split-requires-clause-empty : goal.split-requires-clause-empty
+split-requires-clause-empty c =
+    let p = (named_page _ _ _ (passed c.is_leaf_of-2.ensures c.if-not-is_leaf_of-2.false)).1.page in
+    omega (arith, c.count_of-2.ensures.count p, c.if-count_of-ne0.false)
+
+pub split-requires-clause-within : goal.split-requires-clause-within
+split-requires-clause-within c =
+    let p = (named_page _ _ _ (passed c.is_leaf_of.ensures c.if-not-is_leaf_of.false)).1.page in
+    omega (arith, c.count_of.ensures.count p, c.if-self-count_of.false)
 
 pub split-requires-clause-kinds : goal.split-requires-clause-kinds
 split-requires-clause-kinds c =
@@ -41,7 +45,7 @@ returns c = λ leaf blank na nb none le.
     )
 
 pub returns-then-self-count_of : goal.returns-then-self-count_of
-returns-then-self-count_of c = λ leaf blank na nb none le. absurd (too_far c.args.a.now leaf c.args.self.now.at c.count_of.result na.0 c.count_of.ensures (omega (arith, c.if-self-count_of.true)) le)
+returns-then-self-count_of c = λ leaf blank na nb none le. absurd (too_far c.args.a.now leaf c.args.self.now.at c.count_of.result na.0 (c.count_of.ensures.count (leaf_page_of c.args.a.now leaf na.0).page) (omega (arith, c.if-self-count_of.true)) le)
 
 pub returns-then-count_of-ne0 : goal.returns-then-count_of-ne0
-returns-then-count_of-ne0 c = λ leaf blank na nb none le. absurd (not_blank c.args.b.now blank c.count_of-2.result nb.0 c.count_of-2.ensures c.if-count_of-ne0.true none)
+returns-then-count_of-ne0 c = λ leaf blank na nb none le. absurd (not_blank c.args.b.now blank c.count_of-2.result nb.0 (c.count_of-2.ensures.count (leaf_page_of c.args.b.now blank nb.0).page) c.if-count_of-ne0.true none)

@@ -1,0 +1,5 @@
+pub mod Pages
+pub mod Groups
+pub mod Saved
+pub mod Infos
+pub mod Backed

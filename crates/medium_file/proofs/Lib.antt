@@ -1,0 +1,5 @@
+pub mod Places
+pub mod Headers
+pub mod Writers
+pub mod Sealing
+pub mod Sealed

@@ -1,0 +1,3 @@
+pub mod Media
+pub mod Writing
+pub mod Calls
