@@ -1,6 +1,7 @@
 // The generated load on SQLite in WAL mode, with a sync at each commit: four tables of blobs without
-// row numbers.
-//     sqlite FOLDER SEED COUNT
+// row numbers. It ends without closing the database, as a stop does; with the folder alone it is a
+// restart: it opens the database again and counts the rows.
+//     sqlite FOLDER [SEED COUNT]
 #include <sqlite3.h>
 #include <stdint.h>
 #include <stdio.h>
@@ -23,9 +24,24 @@ static int step(sqlite3_stmt *it) {
     return code;
 }
 
+static int restart(const char *name) {
+    if (sqlite3_open(name, &db)) return 1;
+    for (int t = 1; t <= 4; t++) {
+        sqlite3_stmt *rows = prepared("select count(*) from t%d", t);
+        if (sqlite3_step(rows) != SQLITE_ROW) return 1;
+        printf("%d rows\n", sqlite3_column_int(rows, 0));
+        sqlite3_reset(rows);
+    }
+    return 0;
+}
+
 int main(int argc, char **argv) {
-    if (argc != 4) return 2;
+    if (argc != 2 && argc != 4) return 2;
     char name[4096], key[16], other[16], value[16];
+    if (argc == 2) {
+        snprintf(name, sizeof name, "%s/load.sqlite", argv[1]);
+        return restart(name);
+    }
     uint32_t x = strtoul(argv[2], 0, 10);
     long count = atol(argv[3]);
     snprintf(name, sizeof name, "%s/load.sqlite", argv[1]);

@@ -1,4 +1,4 @@
--- A database that is off, without media, is sound, and agrees with the history that it has itself.
+-- A database that is off, without backups, is sound, and agrees with the history that it has itself.
 --     is_sound, agrees      the two
 --     starts      so a call may start where each image stands for one
 use Rattle.std.proofs.Common.{◌≡◌, refl, sym, ap, subst, ◌∙◌, ℕ, ◌≤◌, zero, suc, Bool, true, false, cond, List, [], ◌∷◌, length, map, Option, Some, None, arith}
@@ -50,9 +50,9 @@ only_name name h other q found = by_test (eq_by_cmp name_cmp q name) (sym (get-i
   by_test true there = refl
   by_test false there = let none : ◌≡◌ {A = Option History} None (Some other) = sym (get-empty name_cmp q) ∙ there in cc
 
-module _ (reading : PageReading) (w : World) (bare : w.media ≡ empty) (from : w.history.first ≤ w.saved) (to : w.saved ≤ last w.history) where
+module _ (reading : PageReading) (w : World) (bare : backups_of w ≡ []) (from : w.history.first ≤ w.saved) (to : w.saved ≤ last w.history) where
   no_media : backups_of (off w) ≡ []
-  no_media = ap (λ (media : FinMap nat_cmp Medium). filter_map (λ m. m.holds) (values media)) bare ∙ ap (λ es. filter_map (λ m. m.holds) (map (λ e. e.1) es)) (entries-empty {X = Medium} nat_cmp)
+  no_media = bare
 
   no_transactions : (session : ℕ) → transaction (off w) session ≡ no_transaction
   no_transactions session = ap (λ o. unwrap_or o no_transaction) (get-empty nat_cmp session)
@@ -91,7 +91,7 @@ module _ (reading : PageReading) (w : World) (bare : w.media ≡ empty) (from : 
   }
 
 -- a call may start on images that stand for one world that is off
-pub starts : (said : ℕ → List ℕ) (may_leave : ℕ → Image → Type 0) (now : ℕ) (w : World) → off w ≡ w → w.media ≡ empty → w.history.first ≤ w.saved → w.saved ≤ last w.history
+pub starts : (said : ℕ → List ℕ) (may_leave : ℕ → Image → Type 0) (now : ℕ) (w : World) → off w ≡ w → backups_of w ≡ [] → w.history.first ≤ w.saved → w.saved ≤ last w.history
     → ((image : Image) → may_leave now image → StandsFor image w)
     → CanStart page_reading said may_leave StandsFor now ((w, own_age w) ∷ [])
 starts said may_leave now w rest bare from to stand =

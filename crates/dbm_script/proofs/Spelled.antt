@@ -1,10 +1,11 @@
 -- Numbers and byte strings as they are spelled.
-use Rattle.std.proofs.Common.{◌≡◌, ◌≢◌, ℕ, ◌+◌, ◌-◌, ◌*◌, ◌<◌, ◌≤◌, List, [], ◌∷◌, ◌++◌, true, IsTrue, Option, Some, None, length, take, drop, get_or, fold, refl, sym, ap, ◌∙◌, subst, inl, inr, arith, append_assoc, ◌&&◌, MatchOption, Bor}
+use Rattle.std.proofs.Common.{◌≡◌, ◌≢◌, ℕ, ◌+◌, ◌-◌, ◌*◌, ◌/◌, ◌<◌, ◌≤◌, List, [], ◌∷◌, ◌++◌, Bool, true, false, IsTrue, Option, Some, None, length, take, drop, get_or, fold, refl, sym, ap, ◌∙◌, subst, inl, inr, arith, append_assoc, append-nil, ◌&&◌, ◌||◌, if◌then◌else◌, MatchOption, Bor}
 use Rattle.std.specs.List.{list_all}
 use Rattle.std.proofs.lemmas.Bool.{and_parts}
-use Rattle.std.proofs.lemmas.List.{append_cancel_left, append_cancel_right, take-append-drop, drop_more}
+use Rattle.std.proofs.lemmas.List.{append_cancel_left, append_cancel_right, take-append-drop, drop_more, at_drop_all}
 use Rattle.std.proofs.lemmas.List.Folds.{list_all-append}
 use Rattle.mdb_model.specs.Script.{Bytes, SpellsPart, is_digit, is_plain, is_within, number_of, hex_value, hex_bytes, join_digits}
+use Rattle.dbm_script.specs.Spelling.{is_hex_digit, bytes_spelled, IsSpelled}
 use Rattle.dbm_script.proofs.Cuts.{if_some, number-digits, hex_joined}
 
 -- a number with one more digit
@@ -44,11 +45,6 @@ abbrev pub joined : List ℕ → Option (List ℕ) → Option (List ℕ)
 joined front (Some more) = Some (front ++ more)
 joined front None = None
 
--- nothing in front
-pub joined-nil : (o : Option (List ℕ)) → o ≡ joined [] o
-joined-nil (Some more) = refl
-joined-nil None = refl
-
 -- two more digits are one more byte in front
 pub joined-more : (front digits : List ℕ) (high low x y : ℕ) → hex_value high ≡ Some x → hex_value low ≡ Some y
     → joined front (hex_bytes (high ∷ low ∷ digits)) ≡ joined (front ++ (16 * x + y) ∷ []) (hex_bytes digits)
@@ -57,17 +53,6 @@ joined-more front digits high low x y h l = rw (h, l) (pushed front (hex_bytes d
   pushed front (Some more) b = ap (λ (t : List ℕ). Some t) (sym (append_assoc front ((16 * x + y) ∷ []) more))
   pushed front None b = refl
 
--- no bytes where one of two digits is none
-pub joined-none : (front digits bytes : List ℕ) (high low : ℕ) → ((x y : ℕ) → hex_value high ≡ Some x → hex_value low ≡ Some y → ⊥)
-    → joined front (hex_bytes (high ∷ low ∷ digits)) ≡ Some bytes → ⊥
-joined-none front digits bytes high low bad e =
-    let whole = some_joined front (hex_bytes (high ∷ low ∷ digits)) bytes e in
-    let j = hex_joined (hex_value high) (hex_value low) (hex_bytes digits) whole.0 whole.1 in
-    bad j.0 j.1 j.3 j.4 where
-      some_joined : (front : List ℕ) (o : Option (List ℕ)) (bytes : List ℕ) → joined front o ≡ Some bytes → (z : List ℕ) × (o ≡ Some z)
-      some_joined front (Some z) bytes e = (z, refl)
-      some_joined front None bytes e = absurd (cc)
-
 -- there are two digits for each byte
 pub hex-length : (digits bytes : List ℕ) → hex_bytes digits ≡ Some bytes → length digits ≡ 2 * length bytes
 hex-length [] bytes e = let none : [] ≡ bytes = cc in omega (arith, ap length none)
@@ -75,6 +60,60 @@ hex-length (high ∷ []) bytes e = absurd (cc)
 hex-length (high ∷ low ∷ digits) bytes e =
     let j = hex_joined (hex_value high) (hex_value low) (hex_bytes digits) bytes e in
     omega (arith, ap length j.6, hex-length digits j.2 j.5)
+
+-- one of three choices that holds gives a value
+choice_some : (p q r : Bool) (x y z : ℕ) → IsTrue (p || q || r) → (v : ℕ) × ((if p then Some x else (if q then Some y else (if r then Some z else None))) ≡ Some v)
+choice_some true q r x y z h = (x, refl)
+choice_some false true r x y z h = (y, refl)
+choice_some false false true x y z h = (z, refl)
+choice_some false false false x y z h = absurd (cc)
+
+-- and a value comes from one that holds
+some_choice : (p q r : Bool) (x y z v : ℕ) → (if p then Some x else (if q then Some y else (if r then Some z else None))) ≡ Some v → IsTrue (p || q || r)
+some_choice true q r x y z v e = refl
+some_choice false true r x y z v e = refl
+some_choice false false true x y z v e = refl
+some_choice false false false x y z v e = absurd (cc)
+
+-- a hexadecimal digit has a value
+value-hex_digit : (b : ℕ) → IsTrue (is_hex_digit b) → (v : ℕ) × (hex_value b ≡ Some v)
+value-hex_digit b h = choice_some (is_digit b) (is_within 65 70 b) (is_within 97 102 b) (b - 48) (b - 55) (b - 87) h
+
+-- and what has one is a hexadecimal digit
+hex_digit-value : (b v : ℕ) → hex_value b ≡ Some v → IsTrue (is_hex_digit b)
+hex_digit-value b v e = some_choice (is_digit b) (is_within 65 70 b) (is_within 97 102 b) (b - 48) (b - 55) (b - 87) v e
+
+-- pairs of digits stand for bytes
+pub hex_some : (digits : List ℕ) (n : ℕ) → length digits ≡ 2 * n → IsTrue (list_all is_hex_digit digits) → (bytes : List ℕ) × (hex_bytes digits ≡ Some bytes)
+hex_some [] n l d = ([], refl)
+hex_some (high ∷ []) n l d = absurd (omega arith)
+hex_some (high ∷ low ∷ digits) n l d =
+    let p = and_parts (is_hex_digit high) (list_all is_hex_digit (low ∷ digits)) d in
+    let q = and_parts (is_hex_digit low) (list_all is_hex_digit digits) p.1 in
+    let x = value-hex_digit high p.0 in
+    let y = value-hex_digit low q.0 in
+    let z = hex_some digits (n - 1) (omega arith) q.1 in
+    ((16 * x.0 + y.0) ∷ z.0, rw (x.1, y.1, z.1) refl)
+
+-- and what stands for bytes is all digits
+pub hex_digits-some : (digits bytes : List ℕ) → hex_bytes digits ≡ Some bytes → IsTrue (list_all is_hex_digit digits)
+hex_digits-some [] bytes e = refl
+hex_digits-some (high ∷ []) bytes e = absurd (cc)
+hex_digits-some (high ∷ low ∷ digits) bytes e =
+    let j = hex_joined (hex_value high) (hex_value low) (hex_bytes digits) bytes e in
+    rw (hex_digit-value high j.0 j.3, hex_digit-value low j.1 j.4, hex_digits-some digits j.2 j.5) refl
+
+-- digits that stand for few bytes
+pub IsSpelled-paired : (digits bytes : List ℕ) → hex_bytes digits ≡ Some bytes → length digits ≤ 3000 → IsSpelled true digits
+IsSpelled-paired digits bytes e l =
+    let two = hex-length digits bytes e in
+    let few : length bytes ≤ 1500 = omega arith in
+    rw e (refl, few)
+
+-- digits are two for each byte that they spell
+pub length-spelled : (in_digits : Bool) (text bytes : List ℕ) → in_digits ≡ true → IsSpelled in_digits text → bytes_spelled in_digits text ≡ bytes → length text / 2 ≡ length bytes
+length-spelled true text bytes t s e = omega (arith, hex-length text (bytes_spelled true text) s.0, ap length e)
+length-spelled false text bytes t s e = absurd (cc)
 
 -- What a byte string between quotes, or in hexadecimal, may spell
 
@@ -133,9 +172,9 @@ hex_more digits front i b lt e (x, y, h, l, v) =
     ∙ joined-more front (drop (2 * (i + 1)) digits) (get_or digits (2 * i) 0) (get_or digits (2 * i + 1) 0) x y h l
     ∙ ap (λ (n : ℕ). joined (front ++ n ∷ []) (hex_bytes (drop (2 * (i + 1)) digits))) (sym v)
 
--- no bytes where the next digits spell none
-pub hex_none : (digits front bytes : List ℕ) (i : ℕ) → 2 * i + 1 < length digits → hex_bytes digits ≡ joined front (hex_bytes (drop (2 * i) digits))
-    → ((x y : ℕ) → hex_value (get_or digits (2 * i) 0) ≡ Some x → hex_value (get_or digits (2 * i + 1) 0) ≡ Some y → ⊥) → hex_bytes digits ≡ Some bytes → ⊥
-hex_none digits front bytes i lt e bad f =
-    joined-none front (drop (2 * (i + 1)) digits) bytes (get_or digits (2 * i) 0) (get_or digits (2 * i + 1) 0) bad
-    (sym (e ∙ ap (λ (t : List ℕ). joined front (hex_bytes t)) (two_more digits i lt)) ∙ f)
+-- all that the digits stand for was read
+pub hex_all : (digits bytes front : List ℕ) (i : ℕ) → hex_bytes digits ≡ Some bytes → length digits / 2 ≤ i → hex_bytes digits ≡ joined front (hex_bytes (drop (2 * i) digits))
+    → hex_bytes digits ≡ Some front
+hex_all digits bytes front i some past e =
+    e ∙ at_drop_all (λ (t : List ℕ). joined front (hex_bytes t)) digits (2 * i) (omega (arith, hex-length digits bytes some))
+    ∙ ap (λ (t : List ℕ). Some t) (append-nil front)

@@ -8,11 +8,10 @@ ghost use Rattle.dbm_script.specs.declared.fault.LineFault.TheVariants.{Syntax, 
 ghost use Rattle.dbm_script.specs.Cutting.{first_text, rest_after, FitsLine};
 ghost use Rattle.dbm_script.specs.Reading.{IsRest, IsLast, is_single};
 
-use crate::byte_strings::{key, value};
+use crate::byte_strings::{ByteString, kept_key, kept_value, key, value};
 use crate::cutting::{cut, skip_blanks};
 use crate::fault::LineFault;
 use crate::numbers::{medium, number_within, session, table};
-use mdb_model::bytes::{Key, Value, ValueBuf};
 use mdb_model::name::{Session, Table};
 use mdb_model::script::{BackupKind, Command, PageKind};
 use std::alloc::Global;
@@ -45,9 +44,9 @@ pub fn last(rest: &[u8], command: Command) -> Result<Command, LineFault>
 }
 
 // A table and a key, which end the line.
-fn place(rest: &[u8]) -> Result<(Table, ValueBuf), LineFault>
-    ensures { MatchResult result (λ r. IsTrue (is_table r.0.0) × IsTrue (is_key r.1.items)
-        × FitsLine (Number r.0.0 ∷ Bytes r.1.items ∷ []) rest.now)
+fn place(rest: &[u8]) -> Result<(Table, ByteString<'_>), LineFault>
+    ensures { MatchResult result (λ r. IsTrue (is_table r.0.0) × IsTrue (is_key r.1)
+        × FitsLine (Number r.0.0 ∷ Bytes r.1 ∷ []) rest.now)
         (λ e. (e ≡ Syntax) × ((t : ℕ) (k : List ℕ) → IsTrue (is_table t) → IsTrue (is_key k)
         → FitsLine (Number t ∷ Bytes k ∷ []) rest.now → ⊥)) }
 {
@@ -58,9 +57,9 @@ fn place(rest: &[u8]) -> Result<(Table, ValueBuf), LineFault>
 }
 
 // A table, a key and a value, which end the line.
-fn row(rest: &[u8]) -> Result<(Table, ValueBuf, ValueBuf), LineFault>
-    ensures { MatchResult result (λ r. IsTrue (is_table r.0.0) × IsTrue (is_key r.1.items)
-        × IsTrue (is_value r.2.items) × FitsLine (Number r.0.0 ∷ Bytes r.1.items ∷ Bytes r.2.items
+fn row(rest: &[u8]) -> Result<(Table, ByteString<'_>, ByteString<'_>), LineFault>
+    ensures { MatchResult result (λ r. IsTrue (is_table r.0.0) × IsTrue (is_key r.1)
+        × IsTrue (is_value r.2) × FitsLine (Number r.0.0 ∷ Bytes r.1 ∷ Bytes r.2
         ∷ []) rest.now)
         (λ e. (e ≡ Syntax) × ((t : ℕ) (k v : List ℕ) → IsTrue (is_table t) → IsTrue (is_key k)
         → IsTrue (is_value v) → FitsLine (Number t ∷ Bytes k ∷ Bytes v ∷ []) rest.now → ⊥)) }
@@ -70,28 +69,6 @@ fn row(rest: &[u8]) -> Result<(Table, ValueBuf, ValueBuf), LineFault>
     let (value, rest) = value(rest)?;
     end(rest)?;
     Ok((table, key, value))
-}
-
-// The key in memory of its own.
-fn kept_key(alloc: Global, bytes: &ValueBuf) -> Result<Key, LineFault>
-    requires { IsTrue (is_key bytes.now.items) }
-    ensures { MatchResult result (λ key. key ≡ bytes.now.items) (λ e. e ≡ Memory) }
-{
-    match Key::new(alloc, bytes.as_slice()) {
-        Ok(key) => Ok(key),
-        Err(_) => Err(LineFault::Memory),
-    }
-}
-
-// The value in memory of its own.
-fn kept_value(alloc: Global, bytes: &ValueBuf) -> Result<Value, LineFault>
-    requires { IsTrue (is_value bytes.now.items) }
-    ensures { MatchResult result (λ value. value ≡ bytes.now.items) (λ e. e ≡ Memory) }
-{
-    match Value::new(alloc, bytes.as_slice()) {
-        Ok(value) => Ok(value),
-        Err(_) => Err(LineFault::Memory),
-    }
 }
 
 fn get_row(alloc: Global, session: Session, rest: &[u8]) -> Result<Command, LineFault>

@@ -94,12 +94,13 @@ fn refusal_text(refusal: &Refusal, into: &mut LineBuf)
     }
 }
 
-fn found_text(value: &ValueBuf, into: &mut LineBuf)
-    ensures { into.new.items ≡ line_of (codes "VALUE" ∷ shown value.now.items ∷ []) }
+fn found_text(value: &[u8], into: &mut LineBuf)
+    requires { length value.now ≤ 1500 }
+    ensures { into.new.items ≡ line_of (codes "VALUE" ∷ shown value.now ∷ []) }
 {
     into.clear();
     put(into, b"VALUE ");
-    put_bytes(into, value.as_slice());
+    put_bytes(into, value);
     finish(into, b"", &[]);
 }
 
@@ -109,7 +110,7 @@ pub fn reply_text(items: u64, reply: &Reply, into: &mut LineBuf)
     ensures { into.new.items ≡ line_of (reply_words items reply.now) }
 {
     match reply {
-        Reply::Found(value) => found_text(value, into),
+        Reply::Found(value) => found_text(value.bytes(), into),
         Reply::NoRow => line(into, b"NONE", &[]),
         Reply::PutDone => line(into, b"OK PUT", &[]),
         Reply::DelDone => line(into, b"OK DEL", &[]),

@@ -9,3 +9,4 @@ pub mod StillServing
 pub mod StoodFor
 pub mod Served
 pub mod KeyedRows
+pub mod BesideMedia

@@ -1,24 +1,30 @@
 //! What an area that serves a world gives to a kernel on it. The functions do nothing: their
 //! contracts are the laws.
-ghost use Rattle.std.specs.Prelude.{◌≡◌, ℕ, ◌-◌, ◌≤◌, [], Some, None, true};
+ghost use Rattle.std.specs.Prelude.{◌≡◌, ◌⊎◌, ℕ, ◌-◌, ◌*◌, ◌≤◌, [], Some, None, true, IsSome};
 ghost use Rattle.std.specs.FinMap.{get, empty};
+ghost use Rattle.mdb_model.specs.declared.fault.Device.TheVariants.{Medium};
 ghost use Rattle.mdb_model.specs.declared.name.State.TheVariants.{Offline};
 ghost use Rattle.mdb_model.specs.History.{last, tables_of};
 ghost use Rattle.mdb_model.specs.Images.{Image};
 ghost use Rattle.mdb_model.specs.Sessions.{unsaved};
 ghost use Rattle.mdb_model.specs.Space.{has_room};
+ghost use Rattle.mdb_model.specs.Steps.{backups_of};
 ghost use Rattle.mdb_model.specs.Worlds.{World, Live};
-ghost use Rattle.mdb_host.specs.Disk.{Disk, Keeps, Agree};
+ghost use Rattle.mdb_host.specs.Disk.{Disk, Keeps, Agree, AgreeBut, Goes, Arrives, Creates, Removes};
 ghost use Rattle.mdb_bytes.specs.declared.restart_record.RestartRecord.{RestartRecord};
 ghost use Rattle.mdb_bytes.specs.Forms.{reading};
+ghost use Rattle.mdb_bytes.specs.MediumPages.{most_pages};
 ghost use Rattle.gate_slots.specs.declared.slots.Slots.{Slots};
 ghost use Rattle.page_store.specs.SavingStays.{numbers_left};
 ghost use Rattle.page_store.specs.Steps.{KeepsStore};
 ghost use Rattle.page_store.specs.Store.{Store, block_count};
 ghost use Rattle.redo_ring.specs.declared.ring.Ring.{Ring};
 ghost use Rattle.store_rows.specs.StoredRows.{stored_rows, HasRows};
+ghost use Rattle.standing.specs.Looks.{open_medium};
+ghost use Rattle.standing.specs.MediaComing.{with_medium, without_medium, MediumComes, MediumGoes};
 ghost use Rattle.standing.specs.WholeStanding.{StandsWhole, pages_in};
 ghost use Rattle.kept_worlds.specs.InService.{AtEachMoment};
+ghost use Rattle.live_area.specs.Media.{ChangesMedium};
 ghost use Rattle.live_area.specs.Serving.{IsSoundArea, ServesWorld};
 
 use mdb_host::Host;
@@ -112,11 +118,45 @@ pub fn a_fresh_record_has_the_rows<H: Host>()
 pub fn a_world_that_stands()
     ensures state { (image : Image) (w : World) → StandsWhole image w → w.state ≡ Offline }
     ensures area { (image : Image) (w : World) → StandsWhole image w → w.area ≡ Live }
-    ensures media { (image : Image) (w : World) → StandsWhole image w → w.media ≡ empty }
+    ensures media { (image : Image) (w : World) → StandsWhole image w → backups_of w ≡ [] }
     ensures snapshots { (image : Image) (w : World) → StandsWhole image w → w.snapshots ≡ empty }
     ensures base { (image : Image) (w : World) → StandsWhole image w → w.base ≡ None }
     ensures saved_low { (image : Image) (w : World) → StandsWhole image w
         → w.history.first ≤ w.saved }
     ensures saved_high { (image : Image) (w : World) → StandsWhole image w
         → w.saved ≤ last w.history }
+{}
+
+/// A call on a medium leaves an area sound. Where a blank medium comes to be or goes, at each moment
+/// each image stands for the world before or after it, and then the area serves the one after it.
+pub fn media_come_and_go_beside<H: Host>()
+    ensures sound { (slots : Slots) (r : RestartRecord) (s : Store) (ring : Ring) (d e : H)
+        (number : ℕ) → (H.tells → ChangesMedium number (H.disk d) (H.disk e))
+        → IsSoundArea H.tells slots r s ring (H.disk d)
+        → IsSoundArea H.tells slots r s ring (H.disk e) }
+    ensures each_more { (slots : Slots) (r : RestartRecord) (s : Store) (ring : Ring) (d e : H)
+        (w : World) (number pages : ℕ) → ServesWorld H.tells slots r s ring (H.disk d) w
+        → 1 ≤ number → number ≤ 99 → 2 ≤ pages → pages ≤ most_pages
+        → Goes (H.disk d) (H.disk e) (Creates (Medium number) (8192 * pages))
+        → ((before : Image) → (H.disk d).may_leave (H.disk d).now before
+        → before (Medium number) ≡ None) → AtEachMoment (H.disk d) (H.disk e)
+        (λ image. StandsWhole image w ⊎ StandsWhole image (with_medium w number pages)) }
+    ensures serves_more { (slots : Slots) (r : RestartRecord) (s : Store) (ring : Ring) (d e : H)
+        (w : World) (number pages : ℕ) → ServesWorld H.tells slots r s ring (H.disk d) w
+        → 1 ≤ number → number ≤ 99 → 2 ≤ pages → pages ≤ most_pages
+        → MediumComes number pages (H.disk d).seen (H.disk e).seen
+        → Arrives (H.disk d) (H.disk e) (MediumComes number pages)
+        → ServesWorld H.tells slots r s ring (H.disk e) (with_medium w number pages) }
+    ensures each_less { (slots : Slots) (r : RestartRecord) (s : Store) (ring : Ring) (d e : H)
+        (w : World) (number : ℕ) → ServesWorld H.tells slots r s ring (H.disk d) w
+        → IsSome (get w.media number) → Goes (H.disk d) (H.disk e) (Removes (Medium number))
+        → ((before : Image) → (H.disk d).may_leave (H.disk d).now before
+        → open_medium before number ≡ None) → AtEachMoment (H.disk d) (H.disk e)
+        (λ image. StandsWhole image w ⊎ StandsWhole image (without_medium w number)) }
+    ensures serves_less { (slots : Slots) (r : RestartRecord) (s : Store) (ring : Ring) (d e : H)
+        (w : World) (number : ℕ) → ServesWorld H.tells slots r s ring (H.disk d) w
+        → IsSome (get w.media number)
+        → AgreeBut (Medium number) (H.disk d).seen (H.disk e).seen
+        → Arrives (H.disk d) (H.disk e) (MediumGoes number)
+        → ServesWorld H.tells slots r s ring (H.disk e) (without_medium w number) }
 {}

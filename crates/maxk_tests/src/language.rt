@@ -7,7 +7,7 @@ use dbm_script::{
     LineBuf, medium_text, parse_line, print_end, print_medium, print_reply, print_row, reply_text,
     row_text,
 };
-use mdb_model::bytes::{KeyBuf, ValueBuf};
+use mdb_model::bytes::{FoundValue, KeyBuf, ValueBuf};
 use mdb_model::fault::{Damage, Device, Failed, Rule};
 use mdb_model::name::{Name, Session, Table};
 use mdb_model::say::Say;
@@ -243,7 +243,7 @@ fn says_replies(rt: HostRuntime) -> Result<(), Fail> {
 }
 
 #[test]
-fn writes_replies(rt: HostRuntime) {
+fn writes_replies(rt: HostRuntime) -> Result<(), Fail> {
     let mut line = LineBuf::new();
     let name = Name {
         birth: 7,
@@ -268,7 +268,8 @@ fn writes_replies(rt: HostRuntime) {
         line.as_slice(),
         b"ERR 20 DAMAGED MEDIUM3 17 CONVROOT\n".as_slice()
     );
-    reply_text(0, &Reply::Found(ValueBuf::new()), &mut line);
+    let empty = FoundValue::new(FoundValue::room(rt.alloc())?);
+    reply_text(0, &Reply::Found(empty), &mut line);
     assert_eq!(rt; line.as_slice(), b"VALUE ''\n".as_slice());
     row_text(&KeyBuf::new(), &ValueBuf::new(), &mut line);
     assert_eq!(rt; line.as_slice(), b"ROW '' ''\n".as_slice());
@@ -279,4 +280,5 @@ fn writes_replies(rt: HostRuntime) {
     };
     medium_text(&medium, &mut line);
     assert_eq!(rt; line.as_slice(), b"MEDIUM 1 2 PAGES 7 2 4\n".as_slice());
+    Ok(())
 }

@@ -3,12 +3,12 @@
 --     no_backups, one_generation, no_snapshots, no_undo, no_changed_pages      what is not there yet
 --     tables_are_trees      what is there
 use Rattle.std.specs.Prelude.{Bool, true, false, not}
-use Rattle.mdb_model.specs.Stages.{changes_in_memory, has_media, has_tasks}
+use Rattle.mdb_model.specs.Stages.{changes_in_memory, has_backups, has_tasks}
 
--- there are no backups: no medium, nothing saved, no base, nothing pending; false in the whole
--- program, as are the next four
+-- there are no backups: each medium is blank, nothing is saved, there is no base, nothing is
+-- pending; false in the whole program, as are the next four
 abbrev pub no_backups : Bool
-no_backups = not has_media
+no_backups = not has_backups
 
 -- there is neither revert nor recover: the area is live, and the generation is the first
 abbrev pub one_generation : Bool

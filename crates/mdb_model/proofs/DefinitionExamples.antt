@@ -1,14 +1,12 @@
 -- Worked cases of definitions: what a plainer form of each would let through.
-use Rattle.std.proofs.Common.{◌≡◌, refl, inl, inr, ℕ, ◌+◌, ◌-◌, ◌<◌, List, [], ◌∷◌, take, arith}
-use Rattle.std.specs.Prelude.{Some, decimal}
+use Rattle.std.proofs.Common.{◌≡◌, refl, inl, inr, ℕ, ◌+◌, ◌-◌, List, [], ◌∷◌, take, arith}
 use Rattle.mdb_model.specs.declared.change.Commit.{Commit}
 use Rattle.mdb_model.specs.declared.name.Name.{Name}
-use Rattle.mdb_model.specs.declared.script.Reply.{Reply}
 use Rattle.mdb_model.specs.declared.script.Reply.TheVariants.{OnlineAt, Refused}
-use Rattle.mdb_model.specs.declared.script.Refusal.TheVariants.{DeviceFailed, MemoryWanting, Syntax}
+use Rattle.mdb_model.specs.declared.script.Refusal.TheVariants.{DeviceFailed}
 use Rattle.mdb_model.specs.declared.status.Status.TheVariants.{Done, Memory}
 use Rattle.mdb_model.specs.Agreement.{Ages, HasNumber, IsLogOfAge}
-use Rattle.mdb_model.specs.History.{History, no_history, cut, commits_above}
+use Rattle.mdb_model.specs.History.{no_history, cut, commits_above}
 use Rattle.mdb_model.specs.Pages.{PageReading}
 use Rattle.mdb_model.specs.Workload.{next_random, random_table, put_number, del_number, LoadEnds}
 

@@ -100,7 +100,7 @@ module _ (reading : PageReading) (facts : Facts) (in_reach : facts.record_past_e
   get_is_admitted : refusal reading again facts (GetRow one table k) ≡ None
   get_is_admitted = simp maps refl
 
-  get_finds : (done reading again facts (GetRow one table k)).0 ≡ plain (Found (record { items = v }))
+  get_finds : (done reading again facts (GetRow one table k)).0 ≡ plain (Found v)
   get_finds = simp maps refl
 
   abbrev taken : Command → Answer → World → TakenLine
@@ -114,7 +114,7 @@ module _ (reading : PageReading) (facts : Facts) (in_reach : facts.record_past_e
   commit_step = subst (λ (e : Answer × World). Entry reading (with_put ∷ []) (Some (CommitWork one)) e.0 (e.1 ∷ [])) commit_leads
       (step with_put (CommitWork one) commit_is_admitted refl tt)
 
-  get_step : Entry reading (again ∷ []) (Some (GetRow one table k)) (plain (Found (record { items = v }))) ((done reading again facts (GetRow one table k)).1 ∷ [])
+  get_step : Entry reading (again ∷ []) (Some (GetRow one table k)) (plain (Found v)) ((done reading again facts (GetRow one table k)).1 ∷ [])
   get_step = subst (λ answer. Entry reading (again ∷ []) (Some (GetRow one table k)) answer ((done reading again facts (GetRow one table k)).1 ∷ [])) get_finds
       (step again (GetRow one table k) get_is_admitted refl tt)
 
@@ -125,7 +125,7 @@ module _ (reading : PageReading) (facts : Facts) (in_reach : facts.record_past_e
       ∷ taken (CommitWork one) (plain (Committed 1)) with_commit
       ∷ taken Kill (plain OfflineNow) stopped
       ∷ taken DbOnline (plain (OnlineAt 1)) again
-      ∷ taken (GetRow one table k) (plain (Found (record { items = v }))) (done reading again facts (GetRow one table k)).1
+      ∷ taken (GetRow one table k) (plain (Found v)) (done reading again facts (GetRow one table k)).1
       ∷ [])
   whole = (
     step fresh DbOnline first_online refl tt,

@@ -25,7 +25,7 @@ abbrev ask : Session → Command
 ask session = GetRow session (record { 0 = 1 }) (codes "k")
 
 abbrev found : Answer
-found = plain (Found (record { items = codes "v" }))
+found = plain (Found (codes "v"))
 
 abbrev taken : Command → Answer → TakenLine
 taken line answer = record { line = Some line; answer = answer; worlds = [] }

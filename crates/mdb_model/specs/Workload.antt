@@ -6,7 +6,6 @@ use Rattle.std.specs.Prelude.{◌≡◌, ◌≢◌, ◌⊎◌, ◌↔◌, ℕ, z
 use Rattle.std.specs.List.{join_with_byte}
 use Rattle.mdb_model.specs.declared.name.Session.{Session}
 use Rattle.mdb_model.specs.declared.name.Table.{Table}
-use Rattle.mdb_model.specs.declared.script.Command.{Command}
 use Rattle.mdb_model.specs.declared.script.Command.TheVariants.{GetRow, PutRow, DelRow, CommitWork, RollbackWork, DbOnline, DbOffline}
 use Rattle.mdb_model.specs.declared.script.Refusal.TheVariants.{DeviceFailed, MemoryWanting}
 use Rattle.mdb_model.specs.declared.script.Reply.{Reply}

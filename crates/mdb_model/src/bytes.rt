@@ -1,5 +1,5 @@
 //! Keys and values, seen as lists of bytes.
-ghost use Rattle.std.specs.Prelude.{◌≡◌, ◌<◌, ◌≤◌, length, refl, nat_eq, Some, IfOk};
+ghost use Rattle.std.specs.Prelude.{◌≡◌, ◌<◌, ◌≤◌, length, refl, nat_eq, [], Some, IfOk};
 ghost use Rattle.std.specs.Cmp.{partial_equiv_from_equiv};
 ghost use Rattle.std.specs.Cmp.Lexicographic.{pointwise, slice_cmp, nat_list_eq_equiv, nat_list_cmp_total, texts_po, texts_ties};
 ghost use Rattle.std.specs.Ordering.{nat_cmp};
@@ -184,5 +184,46 @@ impl Value {
         // There is room for every value, so it succeeds.
         let _ = copied.try_extend_from_slice(self.bytes.as_slice());
         copied
+    }
+}
+
+/// The value of a row that was found, in memory of its own, so that a reply is small to pass on.
+#[derive(Drop)]
+pub struct FoundValue {
+    bytes: Box<ValueBuf>,
+}
+
+impl Model for FoundValue {
+    ghost use Rattle.std.specs.Prelude.{List, ℕ};
+
+    ghost Value = { List ℕ };
+
+    ghost view = { λ found. found.bytes.value.items };
+}
+
+impl FoundValue {
+    /// Memory for the value of a row, with no bytes in it yet.
+    pub fn room(alloc: Global) -> Result<Box<ValueBuf>, Memory>
+        ensures { IfOk result (λ room. room.value ≡ record { items = [] }) }
+    {
+        match Box::new(alloc, ValueBuf::new()) {
+            Ok(room) => Ok(room),
+            Err(_) => Err(Memory),
+        }
+    }
+
+    /// The value whose bytes were read into the room.
+    pub fn new(bytes: Box<ValueBuf>) -> FoundValue
+        ensures { result ≡ bytes.value.items }
+    {
+        FoundValue { bytes }
+    }
+
+    /// Its bytes.
+    pub fn bytes(&self) -> &[u8]
+        ensures is { result.now ≡ self.now }
+        ensures few { length result.now ≤ 1500 }
+    {
+        self.bytes.as_slice()
     }
 }

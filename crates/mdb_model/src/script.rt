@@ -1,5 +1,5 @@
 //! The lines of a script and the replies to them.
-use crate::bytes::{Key, Value, ValueBuf};
+use crate::bytes::{FoundValue, Key, Value};
 use crate::fault::Damage;
 use crate::name::{Name, Session, State, Table};
 use arrayvec::ArrayVec;
@@ -85,7 +85,7 @@ pub enum Refusal {
 /// media are asked for one at a time, past `ScanOpen` and `MediaOpen`.
 #[derive(Drop)]
 pub enum Reply {
-    Found(ValueBuf),
+    Found(FoundValue),
     NoRow,
     PutDone,
     DelDone,

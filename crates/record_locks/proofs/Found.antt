@@ -3,14 +3,15 @@
 --     holder-here, holder-nowhere      which session bars a lock
 --     bars-index      the locks at an index are those of the session with that number
 --     bars-set      what the sessions bar once one has other locks
-use Rattle.std.proofs.Common.{◌≡◌, refl, sym, ap, ◌∙◌, ℕ, zero, suc, ◌+◌, ◌<◌, ◌≤◌, Bool, true, false, not, ◌&&◌, ◌||◌, ◌==◌, cond, List, [], ◌∷◌, Option, Some, None, length, get_or, set, find, arith}
+--     above-free      no session past the highest one has a lock, whatever one below it takes
+use Rattle.std.proofs.Common.{◌≡◌, refl, sym, ap, ◌∙◌, ℕ, zero, suc, ◌+◌, ◌-◌, ◌<◌, ◌≤◌, Bool, true, false, not, ◌&&◌, ◌||◌, ◌==◌, cond, List, [], Option, Some, None, length, get_or, set, find, arith}
 use Rattle.std.specs.List.{list_any, range_with_len}
 use Rattle.std.proofs.lemmas.Bool.{eqb-true, eqb-false, ne_eqb, eq-eqb, and_from}
 use Rattle.std.proofs.lemmas.List.{get_or-set_same, get_or-set_other, get_or_default}
 use Rattle.mdb_model.specs.Worlds.{Lock}
 use Rattle.mdb_model.specs.Sessions.{conflict}
 use Rattle.record_locks.specs.Holding.{HasOneMore}
-use Rattle.record_locks.specs.Holders.{bars, locks_of, holder_in}
+use Rattle.record_locks.specs.Holders.{bars, locks_of, holder_in, IsBound}
 
 module _ (test : ℕ → Bool) where
   pub find-step : (a n : ℕ) (o : Option ℕ) → find test (range_with_len (a + 1) n) ≡ o → test a ≡ false → find test (range_with_len a (suc n)) ≡ o
@@ -98,3 +99,34 @@ module _ (locks : List (List Lock)) (session : ℕ) (now : List Lock) (inside : 
     by_session : (b : Bool) → (other == session) ≡ b → bars (set locks session now) other asked ≡ (bars locks other asked && not b)
     by_session true own = ap (list_any (conflict asked)) (set-own other (eqb-true other session own) ∙ is) ∙ nothing (bars locks other asked)
     by_session false apart = ap (list_any (conflict asked)) (set-other other (eqb-false other session apart)) ∙ sym (plain (bars locks other asked))
+
+-- no session past the highest one has a lock, whatever one below it takes
+pub above-free : (locks : List (List Lock)) (highest session h2 : ℕ) (now : List Lock) → IsBound locks highest → highest ≤ h2 → session ≤ h2 → h2 ≤ 64 → IsBound (set locks session now) h2
+above-free locks highest session h2 now bound more own most = record {
+  most = most;
+  none_above = λ other asked above.
+      ap (list_any (conflict asked)) (get_or-set_other locks session other now [] (λ same. absurd (omega (arith, above, own, same))))
+      ∙ bound.none_above other asked (omega (arith, above, more));
+}
+
+-- one session less where the highest one has no lock
+pub lower : (locks : List (List Lock)) (highest : ℕ) (own d : List Lock) → IsBound locks highest → highest < length locks → 0 < highest → own ≡ get_or locks highest d → own ≡ [] → IsBound locks (highest - 1)
+lower locks highest own d bound inside some is none = record {
+  most = omega (arith, bound.most);
+  none_above = λ other asked above. by_place other asked above (other == highest) refl;
+} where
+  by_place : (other : ℕ) (asked : Lock) → highest - 1 < other → (b : Bool) → (other == highest) ≡ b → bars locks other asked ≡ false
+  by_place other asked above true same =
+      ap (λ k. bars locks k asked) (eqb-true other highest same)
+      ∙ ap (list_any (conflict asked)) (sym (get_or_default locks highest d [] inside) ∙ sym is ∙ none)
+  by_place other asked above false apart =
+      let differs = eqb-false other highest apart in
+      bound.none_above other asked (omega (arith, above, some, differs))
+
+-- nor where a session's locks are gone
+pub cleared-free : (locks : List (List Lock)) (highest session : ℕ) (now : List Lock) → session < length locks → IsBound locks highest → now ≡ [] → IsBound (set locks session now) highest
+cleared-free locks highest session now inside bound none = record {
+  most = bound.most;
+  none_above = λ other asked above.
+      bars-none locks session now inside none other asked ∙ ap (λ b. b && not (other == session)) (bound.none_above other asked above);
+}

@@ -6,7 +6,8 @@
 --     HasLock      what is left where a session has one more lock
 --     Acquires      what asking for a lock gives, and leaves
 --     LetGo      what is left where a session's locks are gone
-use Rattle.std.specs.Prelude.{◌≡◌, ℕ, List, [], Bool, false, not, ◌&&◌, ◌||◌, ◌==◌, Option, Some, None, Result, Ok, Err, find, slice_index_or}
+--     IsBound      no session with a greater number has a lock
+use Rattle.std.specs.Prelude.{◌≡◌, ◌≤◌, ◌<◌, ℕ, List, [], Bool, false, not, ◌&&◌, ◌||◌, ◌==◌, Option, Some, None, Result, Ok, Err, find, slice_index_or}
 use Rattle.std.specs.List.{list_any, range_with_len}
 use Rattle.mdb_model.specs.Worlds.{Lock, ShareKey, ExclusiveKey, ShareTable}
 use Rattle.mdb_model.specs.Sessions.{conflict, same_place}
@@ -63,3 +64,9 @@ abbrev pub LetGo : (old new : List (List Lock)) → (session : ℕ) → Type 0
 LetGo old new session =
     (other : ℕ) (asked : Lock) → bars new other asked
     ≡ (bars old other asked && not (other == session))
+
+-- no session with a greater number than this one bars anything, and there is room for its number
+pub record IsBound (locks : List (List Lock)) (highest : ℕ) : Type 0 where
+  pub most : highest ≤ 64
+  pub none_above : (session : ℕ) (asked : Lock) → highest < session
+      → bars locks session asked ≡ false

@@ -1,5 +1,6 @@
 //! The locks of one session.
 ghost use Rattle.std.specs.Prelude.{◌≡◌, false, [], OnOk, OnErr};
+ghost use Rattle.std.specs.Bool.{OnTrue};
 ghost use Rattle.std.specs.List.{list_any};
 ghost use Rattle.mdb_model.specs.Sessions.{conflict};
 ghost use Rattle.mdb_model.specs.Worlds.{ShareKey};
@@ -93,6 +94,13 @@ impl HeldLocks {
             return Ok(());
         }
         self.shared.insert(alloc, table, key)
+    }
+
+    /// Whether there are none.
+    pub(crate) fn is_empty(&self) -> bool
+        ensures { OnTrue result (self.now ≡ []) }
+    {
+        self.shared.is_empty() && self.exclusive.is_empty() && self.tables.is_empty()
     }
 
     /// Lets all locks go.

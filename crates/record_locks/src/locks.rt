@@ -4,7 +4,7 @@ ghost use Rattle.std.specs.Option.{option_copied};
 ghost use Rattle.mdb_model.specs.Script.{is_session};
 ghost use Rattle.mdb_model.specs.Worlds.{Lock, ShareKey, ExclusiveKey, ShareTable};
 ghost use Rattle.record_locks.specs.Holding.{wanted_lock, lock_on};
-ghost use Rattle.record_locks.specs.Holders.{bars, holder_in, Acquires, LetGo};
+ghost use Rattle.record_locks.specs.Holders.{bars, holder_in, Acquires, LetGo, IsBound};
 
 use crate::fault::LockFault;
 use crate::held::{HeldLocks, Wanted};
@@ -21,29 +21,53 @@ pub struct Locks {
     alloc: Global,
     // at the index of a session's number are its locks, and no session has the number 0
     sessions: [HeldLocks; 65],
+    // no session with a greater number has a lock, so that those who do not work are not asked
+    highest: u8,
 }
 
 impl Model for Locks {
     ghost use Rattle.std.specs.Prelude.{List};
     ghost use Rattle.mdb_model.specs.Worlds.{Lock};
+    ghost use Rattle.record_locks.specs.Holders.{IsBound};
 
     ghost Value = { List (List Lock) };
 
     ghost view = { λ a. a.sessions };
+
+    ghost invariant = { λ a. IsBound a.sessions a.highest };
 }
 
 // The lowest session but this one that bars the lock.
-fn lowest_holder(sessions: &[HeldLocks], session: Session, wanted: Wanted) -> Option<Session>
-    requires { length sessions.now ≡ 65 }
+fn lowest_holder(
+    sessions: &[HeldLocks],
+    highest: u8,
+    session: Session,
+    wanted: Wanted,
+) -> Option<Session>
+    requires long { length sessions.now ≡ 65 }
+    requires bound { IsBound sessions.now highest }
     ensures { option_map (λ holder. holder.0) result
         ≡ holder_in sessions.now session.0 (wanted_lock wanted.entry) }
 {
-    for number in 1..65u8 {
+    for number in 1..highest + 1 {
         if number != session.0 && sessions[number as usize].bars(wanted) {
             return Some(Session(number));
         }
     }
     None
+}
+
+// The lowest number, from this one down, past which no session has a lock.
+fn highest_from(sessions: &[HeldLocks], most: u8) -> u8
+    requires long { length sessions.now ≡ 65 }
+    requires bound { IsBound sessions.now most }
+    ensures { IsBound sessions.now result }
+{
+    let mut highest = most;
+    while highest > 0 && sessions[highest as usize].is_empty() {
+        highest -= 1;
+    }
+    highest
 }
 
 impl Locks {
@@ -54,6 +78,7 @@ impl Locks {
         Locks {
             alloc,
             sessions: array::from_fn(|_| HeldLocks::new(alloc)),
+            highest: 0,
         }
     }
 
@@ -62,11 +87,14 @@ impl Locks {
         requires { IsTrue (is_session session.0) }
         ensures { Acquires self.old self.new session.0 (wanted_lock wanted.entry) result }
     {
-        if let Some(holder) = lowest_holder(&self.sessions, session, wanted) {
+        if let Some(holder) = lowest_holder(&self.sessions, self.highest, session, wanted) {
             return Err(LockFault::Held(holder));
         }
         match self.sessions[session.0 as usize].take(self.alloc, wanted) {
-            Ok(()) => Ok(()),
+            Ok(()) => {
+                self.highest = self.highest.max(session.0);
+                Ok(())
+            }
             Err(Memory) => Err(LockFault::Memory),
         }
     }
@@ -106,6 +134,7 @@ impl Locks {
         ensures { LetGo self.old self.new session.0 }
     {
         self.sessions[session.0 as usize].clear();
+        self.highest = highest_from(&self.sessions, self.highest);
     }
 
     /// The lowest other session with a lock that conflicts with this one: on a key, exclusive or
@@ -126,6 +155,6 @@ impl Locks {
             Some(key) => Wanted::ShareKey(table, key),
             None => Wanted::ShareTable(table),
         };
-        lowest_holder(&self.sessions, session, wanted)
+        lowest_holder(&self.sessions, self.highest, session, wanted)
     }
 }

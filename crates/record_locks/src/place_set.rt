@@ -1,5 +1,6 @@
 //! The keys that a session has locked.
 ghost use Rattle.std.specs.Prelude.{◌≡◌, ◌==◌, ◌||◌, ℕ, Bool, false, List, [], None, OnOk, OnErr};
+ghost use Rattle.std.specs.Bool.{OnTrue};
 ghost use Rattle.std.specs.List.{list_any};
 ghost use Rattle.std.specs.Map.{lookup};
 ghost use Rattle.std.specs.BTreeMap.{is_at, IsOrdered};
@@ -139,6 +140,13 @@ impl PlaceSet {
         }
         let key = key.share()?;
         add_key(&mut self.tables, alloc, table, key)
+    }
+
+    /// Whether no table has any.
+    pub(crate) fn is_empty(&self) -> bool
+        ensures { OnTrue result (self.now ≡ []) }
+    {
+        self.tables.is_empty()
     }
 
     /// Lets all keys go.

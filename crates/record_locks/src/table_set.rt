@@ -1,5 +1,6 @@
 //! The tables that a session has locked.
 ghost use Rattle.std.specs.Prelude.{◌≡◌, ◌==◌, ◌||◌, ℕ, Bool, false, [], OnOk, OnErr};
+ghost use Rattle.std.specs.Bool.{OnTrue};
 ghost use Rattle.std.specs.List.{list_any};
 
 use mdb_model::fault::Memory;
@@ -51,6 +52,13 @@ impl TableSet {
             Ok(_) => Ok(()),
             Err(_) => Err(Memory),
         }
+    }
+
+    /// Whether there are none.
+    pub(crate) fn is_empty(&self) -> bool
+        ensures { OnTrue result (self.now ≡ []) }
+    {
+        self.tables.is_empty()
     }
 
     /// Lets all tables go.

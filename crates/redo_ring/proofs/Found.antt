@@ -1,5 +1,6 @@
 -- What a reader finds, by the bytes that it read.
-use Rattle.std.proofs.Common.{◌≡◌, ◌≢◌, ℕ, ◌+◌, ◌<◌, ◌≤◌, List, [], ◌∷◌, ◌++◌, Bool, true, false, Result, Ok, Err, length, get_or, IsTrue, ◌↔◌, refl, sym, ◌∙◌, ap, subst, arith, length-append}
+use Rattle.std.proofs.Common.{◌≡◌, ◌≢◌, ℕ, ◌+◌, ◌-◌, ◌<◌, ◌≤◌, List, [], ◌∷◌, ◌++◌, Bool, true, false, Result, Ok, Err, length, get_or, IsTrue, ◌↔◌, refl, sym, ◌∙◌, ap, subst, arith, take, drop, length-take, length-drop, length-append}
+use Rattle.std.proofs.lemmas.List.{get_or-take, get_or-drop}
 use Rattle.mdb_model.specs.declared.change.Change.{Change}
 use Rattle.mdb_model.specs.declared.change.Commit.{Commit}
 use Rattle.mdb_model.specs.declared.fault.PageFault.{PageFault}
@@ -8,7 +9,9 @@ use Rattle.mdb_model.specs.declared.name.Name.{Name}
 use Rattle.mdb_model.specs.Images.{Image}
 use Rattle.mdb_model.specs.Sessions.{group_bytes}
 use Rattle.mdb_host.specs.Disk.{Agree}
-use Rattle.mdb_host.proofs.Moments.{same_image}
+use Rattle.mdb_host.specs.Reads.{ReadsOnly}
+use Rattle.mdb_host.specs.declared.host.Host as host
+use Rattle.mdb_host.proofs.Moments.{same_image, stays}
 use Rattle.mdb_bytes.specs.Rings.{ring_byte}
 use Rattle.mdb_bytes.specs.Fields.{Spells, number_at}
 use Rattle.mdb_bytes.specs.Groups.{Group, group_format, group_fields, group_fits}
@@ -20,7 +23,7 @@ use Rattle.mdb_bytes.proofs.LogLaw.{first_is_gate, length_in, bytes_from-take}
 use Rattle.mdb_bytes.proofs.ReadBack.{four_in}
 use Rattle.redo_ring.specs.Ring.{HasGroup, HasLog, HasBytesAt, damage_at}
 use Rattle.redo_ring.specs.declared.reader.RingReader.{RingReader}
-use Rattle.redo_ring.specs.Reading.{NoGroup, FindsGroup, MovesReader, IsNextOf, AreGroups, WalkFinds, WalkEnds}
+use Rattle.redo_ring.specs.Reading.{NoGroup, FindsGroup, MovesReader, IsNextOf, StepsOn, AreGroups, WalkFinds, WalkEnds}
 use Rattle.redo_ring.proofs.Log.{byte_from, stands_from, bytes_cons}
 use Rattle.redo_ring.proofs.Places.{stands_joined}
 
@@ -130,7 +133,7 @@ module _ (ring : ℕ → ℕ) (name : Name) where
 pub false_not : {W : Type 0} → (IsTrue false ↔ W) → W → ⊥
 false_not e w = let t : false ≡ true = e.1 w in cc
 
-module _ (size : ℕ) (name : Name) (ring : ℕ → ℕ) (start p number : ℕ) (head : List ℕ) (long : length head ≡ 33) (stands : HasBytesAt ring p head) where
+module _ (size : ℕ) (name : Name) (ring : ℕ → ℕ) (start p number : ℕ) (head : List ℕ) (long : 5 ≤ length head) (stands : HasBytesAt ring p head) where
   gate : ring p ≡ get_or head 0 0
   gate = let e : p ≡ p + 0 = omega arith in ap ring e ∙ stands 0 (omega (arith, long))
 
@@ -141,7 +144,7 @@ module _ (size : ℕ) (name : Name) (ring : ℕ → ℕ) (start p number : ℕ) 
   gate_shut no_gate is = no_gate (sym gate ∙ is)
 
   length_said : (n : ℕ) → n ≡ number_at 4 1 head → n ≡ number_at 4 1 (bytes_from ring p 33)
-  length_said n is = is ∙ ap (number_at 4 1) (sym (stands_from ring p head stands) ∙ ap (bytes_from ring p) long)
+  length_said n is = is ∙ ap (number_at 4 1) (sym (stands_from ring p head stands)) ∙ front_number ring p (length head) long ∙ sym (front_number ring p 33 (omega arith))
 
   module _ (opened : get_or head 0 0 ≡ 79) (n : ℕ) (is : n ≡ number_at 4 1 head) (fault : PageFault) (named : fault ≡ Damaged (damage_at size p)) where
     damaged_with : (bytes : List ℕ) → NoGroup size name ring start p number → FindsGroup size name ring start p number bytes (Err fault)
@@ -172,6 +175,64 @@ pub stands_more : (size p done : ℕ) (old mid : Image) (so_far more all : List 
 stands_more size p done old mid so_far more all len is same one two =
     let there : HasBytesAt (ring_byte size old) (p + length so_far) more = subst (λ (n : ℕ). HasBytesAt (ring_byte size old) (p + n) more) (sym len) (stood size (p + done) old mid more same two) in
     subst (λ (bs : List ℕ). HasBytesAt (ring_byte size old) p bs) (sym is) (stands_joined (ring_byte size old) p so_far more one there)
+
+-- Bytes of a window
+
+-- the same bytes
+pub stands_as : (ring : ℕ → ℕ) (p : ℕ) (a b : List ℕ) → a ≡ b → HasBytesAt ring p b → HasBytesAt ring p a
+stands_as ring p a b same stands = subst (λ (bs : List ℕ). HasBytesAt ring p bs) (sym same) stands
+
+-- a front of bytes that stand there
+pub front_stands : (ring : ℕ → ℕ) (p n : ℕ) (bytes : List ℕ) → n ≤ length bytes → HasBytesAt ring p bytes → HasBytesAt ring p (take n bytes)
+front_stands ring p n bytes le stands i lt =
+    let in_it : i < n = omega (arith, lt, length-take n bytes) in
+    stands i (omega (arith, in_it, le)) ∙ sym (get_or-take n bytes i 0 in_it)
+
+-- the bytes after a front, which stand where it ends
+pub rest_stands : (ring : ℕ → ℕ) (p q : ℕ) (bytes : List ℕ) → p ≤ q → HasBytesAt ring p bytes → HasBytesAt ring q (drop (q - p) bytes)
+rest_stands ring p q bytes le stands i lt =
+    let at : q + i ≡ p + (q - p + i) = omega arith in
+    ap ring at ∙ stands (q - p + i) (omega (arith, lt, length-drop (q - p) bytes)) ∙ sym (get_or-drop (q - p) bytes i 0)
+
+-- bytes that stand there after calls that change no device
+pub stands_still : (size size2 p : ℕ) (old new : Image) (bytes : List ℕ) → size2 ≡ size → Agree old new → HasBytesAt (ring_byte size old) p bytes → HasBytesAt (ring_byte size2 new) p bytes
+stands_still size size2 p old new bytes same_size same stands = subst (λ (x : ℕ × Image). HasBytesAt (ring_byte x.0 x.1) p bytes) (λ i. (sym same_size i, same_image old new same i)) stands
+
+-- Steps
+
+-- before the first call
+pub reads_none : {H : Type 0} (h : host.Ghosts H) (a : H) → ReadsOnly h a a
+reads_none h a = record {
+  calm = λ told. stays (h.disk a) Agree (λ image e. refl);
+  seen = λ told e. refl;
+  later = omega arith;
+  say_faults = refl;
+}
+
+-- a step, where the ring is told by something else
+pub steps_where : (told other : Type 0) (ring : ℕ → ℕ) (old new : RingReader) (result : Result Bool PageFault) → (told → other) → StepsOn other ring old new result → StepsOn told ring old new result
+steps_where told other ring old new result then steps = record {
+  bytes = steps.bytes;
+  group = steps.group;
+  goes = steps.goes;
+  finds = λ t. steps.finds (then t);
+}
+
+-- a reader stays on its ring
+pub keeps_size : (old new : RingReader) (bytes : List ℕ) (result : Result Bool PageFault) → MovesReader old new bytes result → new.size ≡ old.size
+keeps_size old new bytes (Ok true) goes = ap (λ (r : RingReader). r.size) goes
+keeps_size old new bytes (Ok false) goes = ap (λ (r : RingReader). r.size) goes
+keeps_size old new bytes (Err fault) goes = ap (λ (r : RingReader). r.size) goes
+
+-- a reader never goes back
+pub goes_up : (old new : RingReader) (bytes : List ℕ) (result : Result Bool PageFault) → MovesReader old new bytes result → old.position ≤ new.position
+goes_up old new bytes (Ok true) goes = let at : new.position ≡ old.position + length bytes = ap (λ (r : RingReader). r.position) goes in omega (arith, at)
+goes_up old new bytes (Ok false) goes = let at : new.position ≡ old.position = ap (λ (r : RingReader). r.position) goes in omega (arith, at)
+goes_up old new bytes (Err fault) goes = let at : new.position ≡ old.position = ap (λ (r : RingReader). r.position) goes in omega (arith, at)
+
+-- where the reader stands after a group, by the length that it says
+pub went_by : (old : RingReader) (n m : ℕ) → m ≡ n → ◌≡◌ {A = RingReader} (record old { position = old.position + n; number = old.number + 1 }) (record old { position = old.position + m; number = old.number + 1 })
+went_by old n m same = ap (λ (k : ℕ). record old { position = old.position + k; number = old.number + 1 }) (sym same)
 
 -- A walk
 

@@ -2,8 +2,9 @@
 --     IsReader      the numbers of a reader fit each other
 --     FindsGroup, MovesReader      what it finds at its position, and where it stands then
 --     IsNextOf      the same of a log that is known
+--     HoldsGate, StepsOn      bytes that hold a gate and its group, and a step over it
 --     WalkFinds, WalkEnds      what a walk over the whole log finds
-use Rattle.std.specs.Prelude.{◌≡◌, ◌≢◌, ℕ, ◌+◌, ◌^◌, ◌<◌, ◌≤◌, List, [], ◌∷◌, length, Bool, true, false, Result, Ok, Err}
+use Rattle.std.specs.Prelude.{◌≡◌, ◌≢◌, ℕ, ◌+◌, ◌^◌, ◌<◌, ◌≤◌, List, [], ◌∷◌, length, get_or, Bool, true, false, Result, Ok, Err, IfOk}
 use Rattle.mdb_model.specs.declared.change.Change.{Change}
 use Rattle.mdb_model.specs.declared.change.Commit.{Commit}
 use Rattle.mdb_model.specs.declared.fault.Damage.{Damage}
@@ -11,7 +12,7 @@ use Rattle.mdb_model.specs.declared.fault.PageFault.{PageFault}
 use Rattle.mdb_model.specs.declared.fault.PageFault.TheVariants.{Failed, Damaged}
 use Rattle.mdb_model.specs.declared.name.Name.{Name}
 use Rattle.mdb_model.specs.Sessions.{group_bytes}
-use Rattle.mdb_bytes.specs.Fields.{Spells}
+use Rattle.mdb_bytes.specs.Fields.{Spells, number_at}
 use Rattle.mdb_bytes.specs.Groups.{group_format, open_gate}
 use Rattle.mdb_bytes.specs.LogReading.{IsLog, bytes_from, log_bytes}
 use Rattle.mdb_bytes.specs.Rings.{IsRingSize}
@@ -65,6 +66,23 @@ IsNextOf size name ring position number bytes commits (Ok true) =
 IsNextOf size name ring position number bytes commits (Ok false) = commits ≡ []
 IsNextOf size name ring position number bytes commits (Err (Damaged damage)) = ⊥
 IsNextOf size name ring position number bytes commits (Err Failed) = Unit {0}
+
+-- These bytes hold what stands at their front: a closed gate, or as many bytes as are said after an
+-- open one.
+abbrev pub HoldsGate : List ℕ → Type 0
+HoldsGate bytes =
+    (0 < length bytes)
+    × (get_or bytes 0 0 ≡ open_gate → (33 ≤ length bytes) × (number_at 4 1 bytes ≤ length bytes))
+
+-- A reader went over a group as `next` does, but the group's bytes need not be in a buffer. What it
+-- found is known where the ring is told.
+pub record StepsOn (told : Type 0) (ring : ℕ → ℕ) (old new : RingReader)
+    (result : Result Bool PageFault) : Type 0 where
+  pub bytes : List ℕ
+  pub group : IfOk result (λ more. more ≡ true → HasGroup old.name (old.number + 1) bytes)
+  pub goes : MovesReader old new bytes result
+  pub finds : told
+      → FindsGroup old.size old.name ring old.start old.position old.number bytes result
 
 -- Walks over a whole log
 

@@ -7,6 +7,7 @@ mod open;
 mod pieces;
 mod reader;
 mod ring;
+mod window;
 
 pub use fault::RingFault;
 pub use laws::a_later_beginning_is_due;

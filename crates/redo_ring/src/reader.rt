@@ -1,5 +1,5 @@
 //! Reading the log, group by group.
-ghost use Rattle.std.specs.Prelude.{◌≡◌, ◌↔◌, ℕ, ◌+◌, ◌≤◌, ◌<◌, ◌^◌, List, ◌++◌, length, Err, IfOk, OnOk, IsTrue, true};
+ghost use Rattle.std.specs.Prelude.{◌≡◌, ◌↔◌, ℕ, ◌+◌, ◌-◌, ◌≤◌, ◌<◌, ◌^◌, List, ◌++◌, length, drop, Err, IfOk, OnOk, IsTrue, true};
 ghost use Rattle.mdb_model.specs.Causes.{Rose, HasCause};
 ghost use Rattle.mdb_model.specs.declared.change.Commit.{Commit};
 ghost use Rattle.mdb_host.specs.Disk.{Disk, Goes, Agree};
@@ -7,9 +7,10 @@ ghost use Rattle.mdb_host.specs.Reads.{ReadsOnly};
 ghost use Rattle.mdb_bytes.specs.LogReading.{IsLog, log_bytes};
 ghost use Rattle.mdb_bytes.specs.Rings.{HasRing, IsRingSize, ring_byte};
 ghost use Rattle.redo_ring.specs.Ring.{HasGroup, HasBytesAt, damage_at};
-ghost use Rattle.redo_ring.specs.Reading.{IsReader, FindsGroup, MovesReader, IsNextOf, WalkFinds, WalkEnds};
+ghost use Rattle.redo_ring.specs.Reading.{IsReader, FindsGroup, MovesReader, IsNextOf, HoldsGate, StepsOn, WalkFinds, WalkEnds};
 
 use crate::pieces::read_ring;
+use crate::window::Window;
 use mdb_bytes::{GroupBuf, group_len, is_due};
 use mdb_host::{Device, Failed, Host};
 use mdb_model::fault::{Damage, PageFault, Rule};
@@ -126,6 +127,67 @@ impl RingReader {
         }
     }
 
+    // Reads the next group as `next` does, from the window. The ring is read only where the window
+    // does not hold the group, and `into` is used only where no window holds it.
+    fn step<H: Host>(
+        &mut self,
+        host: &mut H,
+        window: &mut Window,
+        into: &mut GroupBuf,
+    ) -> Result<bool, PageFault>
+        requires order { IsReader self.old }
+        requires ring { H.tells → HasRing self.old.size (H.disk host.old).seen }
+        requires there { H.tells → HasBytesAt (ring_byte self.old.size (H.disk host.old).seen)
+            self.old.position window.old }
+        ensures order { IsReader self.new }
+        ensures reads { ReadsOnly H.Host host.old host.new }
+        ensures steps { StepsOn H.tells (ring_byte self.old.size (H.disk host.old).seen) self.old
+            self.new result }
+        ensures there { H.tells → HasBytesAt (ring_byte self.new.size (H.disk host.new).seen)
+            self.new.position window.new }
+        ensures cause { result ≡ Err PageFault.Failed
+            → Rose (H.faults host.old) (H.faults host.new) }
+    {
+        if !holds_gate(window.rest()) {
+            let Ok(()) = window.fill(host, self.size, self.position) else {
+                return Err(PageFault::Failed);
+            };
+        }
+        if holds_gate(window.rest()) {
+            return self.take(window);
+        }
+        window.clear();
+        self.next(host, into)
+    }
+
+    // Goes past the group at the front of the window; false at a closed gate. Where that is not the
+    // group that is due, the reader and the window stay.
+    fn take(&mut self, window: &mut Window) -> Result<bool, PageFault>
+        requires order { IsReader self.old }
+        requires holds { HoldsGate window.old }
+        ensures order { IsReader self.new }
+        ensures steps { (ring : ℕ → ℕ) → StepsOn (HasBytesAt ring self.old.position window.old) ring
+            self.old self.new result }
+        ensures passes { window.new ≡ drop (self.new.position - self.old.position) window.old }
+        ensures no_failure { result ≡ Err PageFault.Failed → ⊥ }
+    {
+        let rest = window.rest();
+        if rest[0] != OPEN_GATE {
+            return Ok(false);
+        }
+        let bytes = group_len(rest) as u64;
+        if !self.has_room(bytes) {
+            return Err(self.damage());
+        }
+        if !is_due(&rest[..bytes as usize], self.name, self.number + 1) {
+            return Err(self.damage());
+        }
+        window.pass(bytes as usize);
+        self.position += bytes;
+        self.number += 1;
+        Ok(true)
+    }
+
     // Whether a group of so many bytes can stand at the position.
     fn has_room(&self, bytes: u64) -> bool
         requires order { IsReader self.now }
@@ -149,6 +211,19 @@ impl RingReader {
             rule: Rule::Group,
         })
     }
+}
+
+// Whether the bytes hold what stands at their front: a closed gate, or a group with its gate.
+fn holds_gate(bytes: &[u8]) -> bool
+    ensures { IsTrue result ↔ HoldsGate bytes.now }
+{
+    if bytes.is_empty() {
+        return false;
+    }
+    if bytes[0] != OPEN_GATE {
+        return true;
+    }
+    GROUP_HEAD <= bytes.len() && group_len(bytes) as usize <= bytes.len()
 }
 
 // Reads a few bytes of the ring after those that are there.
@@ -204,7 +279,7 @@ fn read_group<H: Host>(
     Ok(())
 }
 
-/// Reads all groups up to the closed gate.
+/// Reads all groups up to the closed gate, from 8,192 bytes of the ring at a time.
 pub(crate) fn walk<H: Host>(
     host: &mut H,
     reader: &mut RingReader,
@@ -228,8 +303,9 @@ pub(crate) fn walk<H: Host>(
         result }
     ensures cause { result ≡ Err PageFault.Failed → Rose (H.faults host.old) (H.faults host.new) }
 {
+    let mut window = Window::new();
     while reader.position < reader.start + reader.size {
-        if !reader.next(host, into)? {
+        if !reader.step(host, &mut window, into)? {
             return Ok(());
         }
     }

@@ -15,17 +15,19 @@ ghost use Rattle.open_database.specs.Outside.{page_reading, StandsFor};
 
 use crate::saying::{say_reply, say_scan};
 use db_kernel::kernel::Kernel;
-use dbm_script::{LineFault, parse_line};
+use dbm_script::{LineBuf, LineFault, parse_line};
 use mdb_host::{Failed, Host, Source};
 use mdb_model::limits::MOST_LINES;
 use mdb_model::script::{Command, Refusal, Reply};
 use mdb_model::status::Status;
 use script_lines::{LineKind, LineReader};
 use std::alloc::Global;
+
 // Says all that answers a command.
 fn answer_command<H: Host>(
     kernel: &mut Kernel,
     host: &mut H,
+    text: &mut LineBuf,
     command: &Command,
 ) -> Result<(), Failed>
     requires range { IsTrue (is_in_range command.now) }
@@ -46,15 +48,20 @@ fn answer_command<H: Host>(
     let reply = kernel.command(host, command);
     match command {
         Command::ScanTable(session, table) => match &reply {
-            Reply::ScanOpen => say_scan(kernel, host, *session, *table),
-            _ => say_reply(host, &reply),
+            Reply::ScanOpen => say_scan(kernel, host, text, *session, *table),
+            _ => say_reply(host, text, &reply),
         },
-        _ => say_reply(host, &reply),
+        _ => say_reply(host, text, &reply),
     }
 }
 
 // Says the reply to a line that the kernel does not take.
-fn refuse<H: Host>(kernel: &Kernel, host: &mut H, refusal: Refusal) -> Result<(), Failed>
+fn refuse<H: Host>(
+    kernel: &Kernel,
+    host: &mut H,
+    text: &mut LineBuf,
+    refusal: Refusal,
+) -> Result<(), Failed>
     requires sound { IsSoundKernel H.tells kernel.now.database (H.disk host.old) }
     requires cause { refusal ≡ Refusal.DeviceFailed → ⊥ }
     requires end { refusal ≡ Refusal.NumberEnd → ⊥ }
@@ -68,7 +75,7 @@ fn refuse<H: Host>(kernel: &Kernel, host: &mut H, refusal: Refusal) -> Result<()
     ensures faults { H.faults host.new ≡ H.faults host.old }
     ensures say_cause { HasCause (H.say_faults host.old) (H.say_faults host.new) result }
 {
-    say_reply(host, &Reply::Refused(refusal))
+    say_reply(host, text, &Reply::Refused(refusal))
 }
 
 // Takes a line and says what answers it; false where it is skipped.
@@ -76,6 +83,7 @@ fn take_line<H: Host>(
     alloc: Global,
     kernel: &mut Kernel,
     host: &mut H,
+    text: &mut LineBuf,
     line: &[u8],
 ) -> Result<bool, Failed>
     requires sound { IsSoundKernel H.tells kernel.old.database (H.disk host.old) }
@@ -96,15 +104,15 @@ fn take_line<H: Host>(
 {
     match parse_line(alloc, line) {
         Ok(None) => return Ok(false),
-        Ok(Some(command)) => answer_command(kernel, host, &command)?,
-        Err(LineFault::Syntax) => refuse(kernel, host, Refusal::Syntax)?,
-        Err(LineFault::Memory) => refuse(kernel, host, Refusal::MemoryWanting)?,
+        Ok(Some(command)) => answer_command(kernel, host, text, &command)?,
+        Err(LineFault::Syntax) => refuse(kernel, host, text, Refusal::Syntax)?,
+        Err(LineFault::Memory) => refuse(kernel, host, text, Refusal::MemoryWanting)?,
     }
     Ok(true)
 }
 
 // Says the reply to a line that is too long.
-fn refuse_line<H: Host>(kernel: &Kernel, host: &mut H) -> Result<bool, Failed>
+fn refuse_line<H: Host>(kernel: &Kernel, host: &mut H, text: &mut LineBuf) -> Result<bool, Failed>
     requires sound { IsSoundKernel H.tells kernel.now.database (H.disk host.old) }
     ensures sound { IsSoundKernel H.tells kernel.now.database (H.disk host.new) }
     ensures keeps { H.tells → Keeps (H.disk host.old) (H.disk host.new) }
@@ -117,7 +125,7 @@ fn refuse_line<H: Host>(kernel: &Kernel, host: &mut H) -> Result<bool, Failed>
     ensures faults { H.faults host.new ≡ H.faults host.old }
     ensures say_cause { HasCause (H.say_faults host.old) (H.say_faults host.new) result }
 {
-    refuse(kernel, host, Refusal::Syntax)?;
+    refuse(kernel, host, text, Refusal::Syntax)?;
     Ok(true)
 }
 
@@ -126,6 +134,7 @@ fn answer<H: Host>(
     alloc: Global,
     kernel: &mut Kernel,
     host: &mut H,
+    text: &mut LineBuf,
     kind: LineKind,
     found: &[u8],
 ) -> Result<bool, Failed>
@@ -146,8 +155,8 @@ fn answer<H: Host>(
     ensures say_cause { HasCause (H.say_faults host.old) (H.say_faults host.new) result }
 {
     match kind {
-        LineKind::Text => take_line(alloc, kernel, host, found),
-        LineKind::TooLong(_) => refuse_line(kernel, host),
+        LineKind::Text => take_line(alloc, kernel, host, text, found),
+        LineKind::TooLong(_) => refuse_line(kernel, host, text),
         LineKind::End => Ok(false),
     }
 }
@@ -190,6 +199,8 @@ pub fn run_script<H: Host, S: Source>(alloc: Global, host: &mut H, source: &mut 
         return Status::Memory;
     };
     let mut kernel = Kernel::new(alloc);
+    // each reply is spelled here
+    let mut text = LineBuf::new();
     let mut count = 0;
     while count <= MOST_LINES {
         let Ok(kind) = reader.advance(source) else {
@@ -202,7 +213,7 @@ pub fn run_script<H: Host, S: Source>(alloc: Global, host: &mut H, source: &mut 
         if MOST_LINES < count {
             return Status::LinesEnd;
         }
-        let Ok(_) = answer(alloc, &mut kernel, host, kind, reader.text()) else {
+        let Ok(_) = answer(alloc, &mut kernel, host, &mut text, kind, reader.text()) else {
             return Status::SayFault;
         };
     }

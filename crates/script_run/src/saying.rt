@@ -23,7 +23,12 @@ use mdb_model::name::{Session, Table};
 use mdb_model::script::{Next, Reply};
 
 // Says the reply after so many items, by one call.
-fn say_end<H: Host>(host: &mut H, items: u64, reply: &Reply) -> Result<(), Failed>
+fn say_end<H: Host>(
+    host: &mut H,
+    text: &mut LineBuf,
+    items: u64,
+    reply: &Reply,
+) -> Result<(), Failed>
     ensures speaks { H.tells → Speaks (H.disk host.old) (H.disk host.new)
         (line_of (reply_words items reply.now)) }
     ensures said { OnOk result (H.tells → (H.disk host.new).said (H.disk host.new).now
@@ -33,13 +38,12 @@ fn say_end<H: Host>(host: &mut H, items: u64, reply: &Reply) -> Result<(), Faile
     ensures faults { H.faults host.new ≡ H.faults host.old }
     ensures say_cause { HasCause (H.say_faults host.old) (H.say_faults host.new) result }
 {
-    let mut text = LineBuf::new();
-    reply_text(items, reply, &mut text);
+    reply_text(items, reply, text);
     host.say(text.as_slice())
 }
 
-/// Says a reply by one call.
-pub fn say_reply<H: Host>(host: &mut H, reply: &Reply) -> Result<(), Failed>
+/// Says a reply by one call. Its text is spelled in `text`, whatever stood there.
+pub fn say_reply<H: Host>(host: &mut H, text: &mut LineBuf, reply: &Reply) -> Result<(), Failed>
     ensures speaks { H.tells → Speaks (H.disk host.old) (H.disk host.new)
         (text_of (plain reply.now)) }
     ensures said { OnOk result (H.tells → (H.disk host.new).said (H.disk host.new).now
@@ -49,11 +53,16 @@ pub fn say_reply<H: Host>(host: &mut H, reply: &Reply) -> Result<(), Failed>
     ensures faults { H.faults host.new ≡ H.faults host.old }
     ensures say_cause { HasCause (H.say_faults host.old) (H.say_faults host.new) result }
 {
-    say_end(host, 0, reply)
+    say_end(host, text, 0, reply)
 }
 
 // Says a row of a scan by one call.
-fn say_row<H: Host>(host: &mut H, key: &KeyBuf, value: &ValueBuf) -> Result<(), Failed>
+fn say_row<H: Host>(
+    host: &mut H,
+    text: &mut LineBuf,
+    key: &KeyBuf,
+    value: &ValueBuf,
+) -> Result<(), Failed>
     ensures speaks { H.tells → Speaks (H.disk host.old) (H.disk host.new)
         (line_of (item_words (Row key.now.items value.now.items))) }
     ensures said { OnOk result (H.tells → (H.disk host.new).said (H.disk host.new).now
@@ -64,8 +73,7 @@ fn say_row<H: Host>(host: &mut H, key: &KeyBuf, value: &ValueBuf) -> Result<(), 
     ensures faults { H.faults host.new ≡ H.faults host.old }
     ensures say_cause { HasCause (H.say_faults host.old) (H.say_faults host.new) result }
 {
-    let mut text = LineBuf::new();
-    row_text(key, value, &mut text);
+    row_text(key, value, text);
     host.say(text.as_slice())
 }
 
@@ -73,6 +81,7 @@ fn say_row<H: Host>(host: &mut H, key: &KeyBuf, value: &ValueBuf) -> Result<(), 
 fn say_next<H: Host>(
     kernel: &mut Kernel,
     host: &mut H,
+    text: &mut LineBuf,
     session: Session,
     table: Table,
     after: &mut KeyBuf,
@@ -99,7 +108,7 @@ fn say_next<H: Host>(
     let mut value = ValueBuf::new();
     match kernel.scan_next(host, session, table, after, &mut key, &mut value) {
         Next::Row => {
-            say_row(host, &key, &value)?;
+            say_row(host, text, &key, &value)?;
             *after = key;
             Ok(Next::Row)
         }
@@ -113,6 +122,7 @@ fn say_next<H: Host>(
 fn say_rows<H: Host>(
     kernel: &mut Kernel,
     host: &mut H,
+    text: &mut LineBuf,
     session: Session,
     table: Table,
 ) -> Result<(u64, Reply), Failed>
@@ -134,7 +144,7 @@ fn say_rows<H: Host>(
     let mut rows: u64 = 0;
     // Where the host tells what it holds there are fewer rows.
     while rows < u64::MAX {
-        match say_next(kernel, host, session, table, &mut after)? {
+        match say_next(kernel, host, text, session, table, &mut after)? {
             Next::Row => rows += 1,
             Next::End => return Ok((rows, Reply::ScanOpen)),
             Next::Fault(reply) => return Ok((rows, reply)),
@@ -144,10 +154,11 @@ fn say_rows<H: Host>(
 }
 
 /// Says the rows of a scan that is open, and the reply that counts them; or, where a row cannot be
-/// read, the rows before it and why.
+/// read, the rows before it and why. Each text is spelled in `text`, whatever stood there.
 pub fn say_scan<H: Host>(
     kernel: &mut Kernel,
     host: &mut H,
+    text: &mut LineBuf,
     session: Session,
     table: Table,
 ) -> Result<(), Failed>
@@ -165,6 +176,6 @@ pub fn say_scan<H: Host>(
     ensures later { H.faults host.old ≤ H.faults host.new }
     ensures say_cause { HasCause (H.say_faults host.old) (H.say_faults host.new) result }
 {
-    let (rows, reply) = say_rows(kernel, host, session, table)?;
-    say_end(host, rows, &reply)
+    let (rows, reply) = say_rows(kernel, host, text, session, table)?;
+    say_end(host, text, rows, &reply)
 }

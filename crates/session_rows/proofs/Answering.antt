@@ -301,6 +301,12 @@ module _ (reading : PageReading) (rows : Tables) (old new : Ongoing) (w : World)
       whole (λ v. IsServed rows old v → RoomIs reading room v (PutRow session table key value) → IfOk (reply_of was_put room result) (λ reply. IsAnswered reading v (PutRow session table key value) (plain reply) (IsServed rows new))) w s.online
       (λ served rule. put_online reading rows old new w served session is_one room table key value rule result does) s rule
 
+  -- for the value of a row there is no memory
+  pub get_starved : (table : Table) (key : List ℕ) → new ≡ old → IsAnswered reading w (GetRow session table key) (refused MemoryWanting) (IsServed rows new)
+  get_starved table key is =
+      whole (λ v. IsServed rows old v → IsAnswered reading v (GetRow session table key) (refused MemoryWanting) (IsServed rows new)) w s.online
+      (λ served. starves reading rows old new w served (GetRow session table key) refl is) s
+
   pub scan_answered : (table : Table) (result : Result (Unit {0}) TxFault) → TakesLock old new session.0 (ShareTable table.0) result → ((fault : PageFault) → result ≡ Err (tx.Page fault) → ⊥)
       → IsAnswered reading w (ScanTable session table) (scan_answer (seen_rows rows new session.0) table (scan_reply result)) (IsServed rows new)
   scan_answered table result takes no_page =

@@ -46,7 +46,7 @@ reply_of said room (Err fault) = refusal_of room fault
 
 -- what is said of a row that was asked for, with this value where it is found
 abbrev pub got : (value : List ℕ) → Bool → Reply
-got value true = Found (record { items = value })
+got value true = Found value
 got value false = NoRow
 
 -- of a put

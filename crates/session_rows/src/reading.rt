@@ -10,14 +10,14 @@ ghost use Rattle.session_rows.specs.Serving.{no_pages, IsServed, IsAnswered};
 
 use crate::replies::get_answer;
 use mdb_bytes::Rows;
-use mdb_model::bytes::{Key, ValueBuf};
+use mdb_model::bytes::{FoundValue, Key};
 use mdb_model::fault::PageFault;
 use mdb_model::name::{Session, Table};
-use mdb_model::script::Reply;
+use mdb_model::script::{Refusal, Reply};
 use transactions::Transactions;
 
-/// The value of a row, as the session sees it. Where the rows cannot be read, the session has the
-/// lock all the same.
+/// The value of a row, as the session sees it. Memory for the value is taken first. Where the rows
+/// cannot be read, the session has the lock all the same.
 pub fn get_row<R: Rows>(
     transactions: &mut Transactions,
     rows: &mut R,
@@ -43,7 +43,9 @@ pub fn get_row<R: Rows>(
     ensures quiet { IfErr result (λ fault. fault ≡ PageFault.Failed → R.reads_devices rows.old) }
     ensures follows { R.follows rows.old rows.new }
 {
-    let mut value = ValueBuf::new();
-    let found = transactions.get(rows, session, table, key, &mut value);
-    get_answer(found, value)
+    let Ok(mut room) = FoundValue::room(transactions.alloc()) else {
+        return Ok(Reply::Refused(Refusal::MemoryWanting));
+    };
+    let found = transactions.get(rows, session, table, key, &mut room);
+    get_answer(found, FoundValue::new(room))
 }

@@ -3,7 +3,7 @@ ghost use Rattle.std.specs.Prelude.{◌≡◌};
 ghost use Rattle.session_rows.specs.Replies.{refusal_of, reply_of, got, was_put, deleted, scan_reply};
 
 use crate::room::Room;
-use mdb_model::bytes::ValueBuf;
+use mdb_model::bytes::FoundValue;
 use mdb_model::fault::PageFault;
 use mdb_model::script::{Refusal, Reply};
 use transactions::TxFault;
@@ -22,8 +22,11 @@ fn refused(room: Room, fault: TxFault) -> Result<Reply, PageFault>
 }
 
 /// The answer to a question for a row.
-pub(crate) fn get_answer(found: Result<bool, TxFault>, value: ValueBuf) -> Result<Reply, PageFault>
-    ensures { result ≡ reply_of (got value.items) Room.Enough found }
+pub(crate) fn get_answer(
+    found: Result<bool, TxFault>,
+    value: FoundValue,
+) -> Result<Reply, PageFault>
+    ensures { result ≡ reply_of (got value) Room.Enough found }
 {
     match found {
         Ok(true) => Ok(Reply::Found(value)),

@@ -223,7 +223,7 @@ module _ (l : Look) (w : World) (c : Commit) (r : RestartRecord) (kept : KeptMap
     stage = record {
       backups = λ asked.
           let old = s.stage.backups asked in
-          record { media = old.media; saved = old.saved; base = old.base; record_pending = old.record_pending; log_pending = old.log_pending };
+          record { blank = old.blank; saved = old.saved; base = old.base; record_pending = old.record_pending; log_pending = old.log_pending };
       generation = s.stage.generation;
       snapshots = s.stage.snapshots;
       images = λ asked. record { maps = (s.stage.images asked).maps; media = (s.stage.images asked).media };

@@ -2,7 +2,7 @@
 --     idle_map      its map is a new map
 --     idle_stands      so the look with it stands
 use Rattle.std.proofs.Common.{◌≡◌, refl, sym, ◌∙◌, subst, ℕ, ◌≤◌, List, [], ◌∷◌, ◌++◌, Option, Some, arith}
-use Rattle.std.specs.Prelude.{IsTrue, filter_map, option_to_list}
+use Rattle.std.specs.Prelude.{filter_map, option_to_list}
 use Rattle.std.specs.List.{AllByRecursion}
 use Rattle.std.proofs.lemmas.Option.{same_Some}
 use Rattle.mdb_model.specs.declared.change.Commit.{Commit}

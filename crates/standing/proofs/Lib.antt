@@ -18,3 +18,4 @@ pub mod RoomKept
 pub mod RoomRows
 pub mod Idle
 pub mod StaleRows
+pub mod MediaComing

@@ -3,7 +3,7 @@
 --     look_but      so may the devices that a database does not have
 --     look_unused, stands_unused      blocks that no kept map uses may hold anything
 use Rattle.std.proofs.Common.{◌≡◌, ◌≢◌, refl, sym, ap, ◌∙◌, subst, ℕ, ◌+◌, ◌%◌, ◌<◌, true, false, cond, ◌&&◌, List, [], ◌∷◌, map, length, Option, Some, None, ◌==◌, sum}
-use Rattle.std.specs.Prelude.{option_and_then, if◌then◌else◌}
+use Rattle.std.specs.Prelude.{option_and_then}
 use Rattle.std.specs.List.{AllByRecursion}
 use Rattle.mdb_model.specs.declared.change.Commit.{Commit}
 use Rattle.mdb_model.specs.declared.fault.Device.TheVariants.{Log, Medium}

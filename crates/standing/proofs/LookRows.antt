@@ -1,5 +1,5 @@
 -- Worked rows of what an image shows: backups that are pending, and what no image stands for.
-use Rattle.std.proofs.Common.{◌≡◌, refl, ℕ, ◌≤◌, List, [], ◌∷◌, ◌++◌, codes, Some, None, replicate, arith}
+use Rattle.std.proofs.Common.{◌≡◌, refl, ℕ, List, [], ◌∷◌, ◌++◌, codes, Some, replicate, arith}
 use Rattle.mdb_model.specs.declared.change.Change.TheVariants.{Put}
 use Rattle.mdb_model.specs.declared.change.Commit.{Commit}
 use Rattle.mdb_model.specs.declared.name.Name.{Name}

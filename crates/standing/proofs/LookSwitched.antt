@@ -1,29 +1,25 @@
 -- What an image shows after a switch of the restart record's slots.
 --     look_switched      the look is as before, or the one with the next record in force
-use Rattle.std.proofs.Common.{◌&&◌, ◌≡◌, ◌≢◌, ◌⊎◌, inl, inr, refl, sym, ap, ◌∙◌, subst, ℕ, ◌+◌, ◌%◌, ◌≤◌, true, false, cond, List, [], ◌∷◌, get_or, map, Option, Some, None, ◌==◌, sum}
+use Rattle.std.proofs.Common.{◌&&◌, ◌≡◌, ◌⊎◌, inl, inr, sym, ap, ◌∙◌, subst, ℕ, ◌+◌, ◌%◌, ◌≤◌, get_or, Some, None, ◌==◌}
 use Rattle.std.specs.Prelude.{option_and_then, if◌then◌else◌}
-use Rattle.std.specs.List.{AllByRecursion}
 use Rattle.mdb_model.specs.declared.fault.Device.TheVariants.{Log, Medium}
 use Rattle.mdb_model.specs.declared.name.Name.{Name}
 use Rattle.mdb_model.specs.Images.{Image, byte_at}
 use Rattle.mdb_model.specs.Script.{is_medium}
 use Rattle.mdb_bytes.specs.declared.log_info.LogInfo.{LogInfo}
 use Rattle.mdb_bytes.specs.declared.restart_record.RestartRecord.{RestartRecord}
-use Rattle.mdb_bytes.specs.declared.restart_record.SnapshotEntry.{SnapshotEntry}
 use Rattle.mdb_bytes.specs.Groups.{open_gate}
-use Rattle.mdb_bytes.specs.KeptMaps.{KeptMap}
 use Rattle.mdb_bytes.specs.LogReading.{log_from}
 use Rattle.mdb_bytes.specs.Rings.{ring_size, ring_byte}
 use Rattle.mdb_bytes.specs.SlotRecords.{slot_len}
-use Rattle.mdb_bytes.proofs.KeptMapLaws.{map_same, all_of, SameOn, kept_map_same}
 use Rattle.gate_slots.specs.declared.body.SlotBody.TheVariants.{Restart}
 use Rattle.gate_slots.specs.declared.slots.Slots.{Slots}
-use Rattle.gate_slots.specs.Slots.{body_in, in_force, IsReady}
+use Rattle.gate_slots.specs.Slots.{in_force, IsReady}
 use Rattle.gate_slots.specs.Steps.{Switches, SlotsTorn}
 use Rattle.gate_slots.proofs.Forces.{ready_force}
-use Rattle.volume_disk.specs.Blocks.{block_at, Writes}
+use Rattle.volume_disk.specs.Blocks.{Writes}
 use Rattle.standing.specs.Standing.{data_slots}
-use Rattle.standing.specs.Looks.{LogPoint, look, record_in, record_of, log_info_in, open_medium, map_under, map_of_record, snapshot_maps, log_after, name_in_force, saved_in_force, redo_point, IsUnusedBy, IsUnused}
+use Rattle.standing.specs.Looks.{LogPoint, look, record_in, record_of, log_info_in, open_medium, map_of_record, snapshot_maps, log_after, name_in_force, saved_in_force, redo_point, IsUnused}
 use Rattle.standing.proofs.LookLaws.{log_info_same, of_record, of_snapshots, look_unused}
 use Rattle.standing.specs.Switching.{shown_with, IsSlotBlock}
 use Rattle.standing.proofs.SlotBlocks.{slots_write}

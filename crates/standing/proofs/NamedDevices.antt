@@ -12,19 +12,18 @@ use Rattle.mdb_model.specs.declared.fault.Device.{Device}
 use Rattle.mdb_model.specs.declared.fault.Device.TheVariants.{Data, Log, Medium}
 use Rattle.mdb_model.specs.Images.{Image}
 use Rattle.mdb_model.specs.Script.{is_medium}
-use Rattle.mdb_model.specs.Worlds.{World, Live}
+use Rattle.mdb_model.specs.Worlds.{World}
 use Rattle.mdb_host.specs.Disk.{SameSizes}
 use Rattle.mdb_host.specs.Places.{IsNamed}
 use Rattle.mdb_bytes.specs.declared.restart_record.RestartRecord.{RestartRecord}
-use Rattle.mdb_bytes.specs.KeptMaps.{KeptMap}
 use Rattle.mdb_bytes.proofs.KeptMapLaws.{all_of}
 use Rattle.gate_slots.proofs.Kept.{force_device}
-use Rattle.volume_disk.specs.Blocks.{place, block_at}
+use Rattle.volume_disk.specs.Blocks.{place}
 use Rattle.volume_disk.proofs.Pages.{page_agrees}
 use Rattle.volume_disk.proofs.Places.{place_is}
 use Rattle.standing.specs.Standing.{data_slots}
-use Rattle.standing.specs.Looks.{Look, look, record_in, record_of, IsUnused}
-use Rattle.standing.specs.WholeStanding.{LookStands, StandsWhole, AreaStands, AreaIsLive, IsSnapshot}
+use Rattle.standing.specs.Looks.{look, record_in, record_of, IsUnused}
+use Rattle.standing.specs.WholeStanding.{StandsWhole, AreaStands, AreaIsLive, IsSnapshot}
 use Rattle.standing.proofs.LookLaws.{AreSameBut, look_but}
 
 both : (a b : Bool) → (a && b) ≡ true → (a ≡ true) × (b ≡ true)

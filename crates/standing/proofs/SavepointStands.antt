@@ -178,7 +178,7 @@ module _ (l : Look) (w : World) (r next : RestartRecord) (new : KeptMap) (log : 
   stage = record {
     backups = λ asked.
         let old = s.stage.backups asked in
-        record { media = old.media; saved = old.saved; base = old.base; record_pending = no_pending asked; log_pending = old.log_pending };
+        record { blank = old.blank; saved = old.saved; base = old.base; record_pending = no_pending asked; log_pending = old.log_pending };
     generation = s.stage.generation;
     snapshots = s.stage.snapshots;
     images = λ asked. record { maps = (m.images asked, (old_images asked).1); media = (s.stage.images asked).media };

@@ -2,7 +2,7 @@
 --     new_stands      the law
 --     same_look      images that show the same stand for the same worlds
 use Rattle.std.proofs.Common.{◌≡◌, ◌≢◌, inl, inr, refl, sym, ap, subst, ◌∙◌, ℕ, zero, suc, ◌+◌, ◌-◌, ◌*◌, ◌<◌, ◌≤◌, ◌==◌, true, false, cond, ◌&&◌, ◌||◌, List, [], ◌∷◌, ◌++◌, length, map, sum, Some, None, arith}
-use Rattle.std.specs.Prelude.{IsTrue, MatchOption, not, option_and_then, is_some, filter_map}
+use Rattle.std.specs.Prelude.{MatchOption, not, option_and_then, is_some, filter_map}
 use Rattle.std.specs.List.{list_any, range_with_len, AllZip, AllByRecursion}
 use Rattle.std.specs.Ordering.{nat_cmp}
 use Rattle.std.specs.FinMap.{get, get-empty, empty, len, len-empty}
@@ -27,7 +27,6 @@ use Rattle.mdb_bytes.specs.Firsts.{leaf_count, first_root_block, first_restart, 
 use Rattle.mdb_bytes.specs.LogReading.{IsLog, log_from, log_bytes}
 use Rattle.mdb_bytes.specs.Rings.{ring_byte}
 use Rattle.mdb_bytes.specs.Forms.{reading}
-use Rattle.mdb_bytes.specs.Groups.{open_gate}
 use Rattle.mdb_bytes.proofs.FirstPages.{first_pages, well_formed, standing_is, committed_is, undo_count_is, all_images_are}
 use Rattle.mdb_bytes.proofs.GroupLaw.{group_is_long}
 use Rattle.mdb_bytes.proofs.LogLaw.{is_log-log_from}
@@ -198,7 +197,7 @@ module _ (image : Image) (site : Site) (commits : List Commit) (records : HasRec
     };
     room = of_commits;
     stage = record {
-      backups = λ asked. record { media = refl; saved = refl; base = refl; record_pending = refl; log_pending = refl };
+      backups = λ asked. record { blank = no_media; saved = refl; base = refl; record_pending = refl; log_pending = refl };
       generation = λ asked. (refl, refl, refl);
       snapshots = λ asked. refl;
       images = λ asked. record { maps = (all_images_are, tt); media = λ k d lt. absurd (omega (arith, lt, ap length no_media)) };

@@ -5,3 +5,4 @@ pub mod Appending
 pub mod Switching
 pub mod RedoRoom
 pub mod RoomRows
+pub mod MediaComing

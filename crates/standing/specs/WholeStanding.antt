@@ -6,7 +6,7 @@
 --     StandsWhole      the image stands for the world
 --     pages_in, savepoint_in, commit_number_in      readings of an image
 use Rattle.std.specs.Prelude.{◌≡◌, ◌≢◌, ◌⊎◌, ℕ, ◌+◌, ◌*◌, ◌<◌, ◌≤◌, min, List, [], ◌∷◌, ◌++◌, Bool, true, IsTrue, IfSome, IsSome, MatchOption, false, All, ◌==◌, length, get_or, map, sum, Option, Some, None, option_map, option_to_list, unwrap_or, filter_map}
-use Rattle.std.specs.List.{flat_map, list_all, AllZip, AllByRecursion}
+use Rattle.std.specs.List.{flat_map, AllZip, AllByRecursion}
 use Rattle.std.specs.Ordering.{nat_cmp}
 use Rattle.std.specs.FinMap.{get, len, empty, entries}
 use Rattle.std.specs.FinSet as set
@@ -296,9 +296,9 @@ is_changed_pages (CompletePages name savepoint commit pages blocks) = false
 is_changed_pages (ChangedPages name savepoint base commit changed live blocks) = true
 is_changed_pages (LogGroups name from to commits blocks) = false
 
--- there is no medium, nothing is saved, there is no base, and nothing is pending
+-- each medium is blank, nothing is saved, there is no base, and nothing is pending
 pub record HasNoBackups (l : Look) (w : World) : Type 0 where
-  pub media : w.media ≡ empty
+  pub blank : backups_of w ≡ []
   pub saved : w.saved ≡ 0
   pub base : w.base ≡ None
   pub record_pending : IfSome l.restart (λ r. r.pending_medium ≡ 0)

@@ -9,7 +9,7 @@ mod room;
 mod savepoint;
 
 pub use append::{a_commit_stands, an_append_shows, an_append_stands};
-pub use laws::{a_new_database_stands, showing_is_enough};
+pub use laws::{a_blank_medium_comes_and_goes, a_new_database_stands, showing_is_enough};
 pub use room::{
     a_savepoint_keeps_room, admitted_is_redone, costs_tell_room, history_is_not_enough,
     room_with_undo_is_lost, tables_have_room,

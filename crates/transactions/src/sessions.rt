@@ -175,6 +175,11 @@ impl Transactions {
         }
     }
 
+    /// Where its memory comes from, which a caller's may come from too.
+    pub fn alloc(&self) -> Global {
+        self.alloc
+    }
+
     /// The value of a row, as the session sees it: its own last change of the key, and else the
     /// committed row; false where it sees none.
     pub fn get<R: Rows>(

@@ -6,8 +6,8 @@ use Rattle.dbm_script.proofs.forms.del_row.Goals as goal
 
 pub returns-in_default : goal.returns-in_default
 returns-in_default c = (
-  DelRow c.args.session c.in_ok-table.table c.in_ok-table.key.items,
-  in_place (is_session c.args.session.0) (is_table c.in_ok-table.table.0) (is_key c.in_ok-table.key.items) c.requires c.in_ok-table.ensures.0 c.in_ok-table.ensures.1,
+  DelRow c.args.session c.in_ok-table.table c.in_ok-table.key,
+  in_place (is_session c.args.session.0) (is_table c.in_ok-table.table.0) (is_key c.in_ok-table.key) c.requires c.in_ok-table.ensures.0 c.in_ok-table.ensures.1,
   refl,
   (refl, (refl, (refl, c.in_ok-table.ensures.2))),
 )

@@ -9,7 +9,7 @@ pub returns-clause-area : goal.returns-clause-area
 returns-clause-area c = live_now
 
 pub returns-clause-media : goal.returns-clause-media
-returns-clause-media c image w stands = (stands.stage.backups refl).media
+returns-clause-media c image w stands = (stands.stage.backups refl).blank
 
 pub returns-clause-snapshots : goal.returns-clause-snapshots
 returns-clause-snapshots c image w stands = stands.stage.snapshots refl

@@ -1,4 +1,4 @@
-use Rattle.std.proofs.Common.{length, ap, ◌∙◌, arith, length-append}
+use Rattle.std.proofs.Common.{length, ap, arith, length-append}
 use Rattle.mdb_host.proofs.Reading.{reads_on}
 use Rattle.redo_ring.proofs.Found.{stands_more}
 use Rattle.redo_ring.proofs.reader.read_group.Goals as goal

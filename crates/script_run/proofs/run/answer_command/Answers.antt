@@ -1,4 +1,4 @@
-use Rattle.std.proofs.Common.{◌≡◌, sym, subst, ap, ◌∙◌, ◌++◌, Some}
+use Rattle.std.proofs.Common.{◌≡◌, sym, subst, ap, ◌∙◌, ◌++◌, Some, rules}
 use Rattle.mdb_host.proofs.Moments.{on_ok, keeps_on}
 use Rattle.mdb_model.specs.declared.script.Command.{Command}
 use Rattle.mdb_model.specs.declared.script.Reply.{Reply}
@@ -39,31 +39,45 @@ returns-in-ScanOpen-clause-does g c told ws fit stand =
     (scan_line d0 d1 d2 f0 f1 f2 c.command-reply.ensures.takes.later c.say_scan.ensures.later ws session table rows (FitsWorlds database d1) done seen.0 seen.1 c.say_scan.new.kernel.database c.say_scan.result
     (c.say_scan.ensures.says told done.after opened))
 
-pub returns-in_default-reply-clause-does : goal.returns-in_default-reply-clause-does
-returns-in_default-reply-clause-does g c told ws fit stand =
-    let d0 = g.H.Host.disk c.args.host.now in
-    let d1 = g.H.Host.disk c.command-reply.new.host in
-    let d2 = g.H.Host.disk c.say_reply.new.host in
-    let database = c.command-reply.new.self.database in
-    let answer = plain c.command-reply.result in
-    let answer_is : answer_of c.args.command.now database d1 c.command-reply.result ≡ answer =
-    ap (λ (line : Command). answer_of line database d1 c.command-reply.result) c.in-ScanTable.is ∙ other_scan c.in-ScanTable.session c.in-ScanTable.table database d1 c.command-reply.result c.in_default-reply.not-ScanOpen in
-    does_line d0 d1 d2 (g.H.Host.faults c.args.host.now) (g.H.Host.faults c.command-reply.new.host) (g.H.Host.faults c.say_reply.new.host) ws (Some c.args.command.now) answer database
-    (subst (λ (a : Answer). Completes page_reading StandsFor d0 d1 ws (Some c.args.command.now) a (FitsWorlds database d1)) answer_is (c.command-reply.ensures.does told ws fit stand))
-    (command_causes d0 d1 (g.H.Host.faults c.args.host.now) (g.H.Host.faults c.command-reply.new.host) ws c.args.kernel.now.database fit c.args.command.now c.command-reply.result
-    (c.command-reply.ensures.takes.keeps told).later c.command-reply.ensures.takes.later c.command-reply.ensures.takes.cause (c.command-reply.ensures.takes.past_end told) (c.command-reply.ensures.takes.in_reach told)) c.say_reply.ensures.faults (c.say_reply.ensures.speaks told) c.say_reply.result
-    (on_ok c.say_reply.result _ (d2.said d2.now ≡ d1.said d1.now ++ text_of answer) (λ said. said told) c.say_reply.ensures.said)
+pub returns-in-ScanTable : goal.returns-in-ScanTable
+returns-in-ScanTable g c = record {
+  sound = search rules;
+  numbers = search rules;
+  keeps = search rules;
+  does = λ told ws fit stand.
+      let d0 = g.H.Host.disk c.args.host.now in
+      let d1 = g.H.Host.disk c.command-reply.new.host in
+      let d2 = g.H.Host.disk c.say_reply.new.host in
+      let database = c.command-reply.new.self.database in
+      let answer = plain c.command-reply.result in
+      let answer_is : answer_of c.args.command.now database d1 c.command-reply.result ≡ answer =
+      ap (λ (line : Command). answer_of line database d1 c.command-reply.result) c.in-ScanTable.is ∙ other_scan c.in-ScanTable.session c.in-ScanTable.table database d1 c.command-reply.result c.in_default-reply.not-ScanOpen in
+      does_line d0 d1 d2 (g.H.Host.faults c.args.host.now) (g.H.Host.faults c.command-reply.new.host) (g.H.Host.faults c.say_reply.new.host) ws (Some c.args.command.now) answer database
+      (subst (λ (a : Answer). Completes page_reading StandsFor d0 d1 ws (Some c.args.command.now) a (FitsWorlds database d1)) answer_is (c.command-reply.ensures.does told ws fit stand))
+      (command_causes d0 d1 (g.H.Host.faults c.args.host.now) (g.H.Host.faults c.command-reply.new.host) ws c.args.kernel.now.database fit c.args.command.now c.command-reply.result
+      (c.command-reply.ensures.takes.keeps told).later c.command-reply.ensures.takes.later c.command-reply.ensures.takes.cause (c.command-reply.ensures.takes.past_end told) (c.command-reply.ensures.takes.in_reach told)) c.say_reply.ensures.faults (c.say_reply.ensures.speaks told) c.say_reply.result
+      (on_ok c.say_reply.result _ (d2.said d2.now ≡ d1.said d1.now ++ text_of answer) (λ said. said told) c.say_reply.ensures.said);
+  later = search rules;
+  say_cause = search rules;
+}
 
-pub returns-in_default-clause-does : goal.returns-in_default-clause-does
-returns-in_default-clause-does g c told ws fit stand =
-    let d0 = g.H.Host.disk c.args.host.now in
-    let d1 = g.H.Host.disk c.command-reply.new.host in
-    let d2 = g.H.Host.disk c.say_reply-in_default.new.host in
-    let database = c.command-reply.new.self.database in
-    let answer = plain c.command-reply.result in
-    let answer_is : answer_of c.args.command.now database d1 c.command-reply.result ≡ answer = other_command c.args.command.now database d1 c.command-reply.result c.in_default.not-ScanTable in
-    does_line d0 d1 d2 (g.H.Host.faults c.args.host.now) (g.H.Host.faults c.command-reply.new.host) (g.H.Host.faults c.say_reply-in_default.new.host) ws (Some c.args.command.now) answer database
-    (subst (λ (a : Answer). Completes page_reading StandsFor d0 d1 ws (Some c.args.command.now) a (FitsWorlds database d1)) answer_is (c.command-reply.ensures.does told ws fit stand))
-    (command_causes d0 d1 (g.H.Host.faults c.args.host.now) (g.H.Host.faults c.command-reply.new.host) ws c.args.kernel.now.database fit c.args.command.now c.command-reply.result
-    (c.command-reply.ensures.takes.keeps told).later c.command-reply.ensures.takes.later c.command-reply.ensures.takes.cause (c.command-reply.ensures.takes.past_end told) (c.command-reply.ensures.takes.in_reach told)) c.say_reply-in_default.ensures.faults (c.say_reply-in_default.ensures.speaks told) c.say_reply-in_default.result
-    (on_ok c.say_reply-in_default.result _ (d2.said d2.now ≡ d1.said d1.now ++ text_of answer) (λ said. said told) c.say_reply-in_default.ensures.said)
+pub returns : goal.returns
+returns g c = record {
+  sound = search rules;
+  numbers = search rules;
+  keeps = search rules;
+  does = λ told ws fit stand.
+      let d0 = g.H.Host.disk c.args.host.now in
+      let d1 = g.H.Host.disk c.command-reply.new.host in
+      let d2 = g.H.Host.disk c.say_reply-in_default.new.host in
+      let database = c.command-reply.new.self.database in
+      let answer = plain c.command-reply.result in
+      let answer_is : answer_of c.args.command.now database d1 c.command-reply.result ≡ answer = other_command c.args.command.now database d1 c.command-reply.result c.in_default.not-ScanTable in
+      does_line d0 d1 d2 (g.H.Host.faults c.args.host.now) (g.H.Host.faults c.command-reply.new.host) (g.H.Host.faults c.say_reply-in_default.new.host) ws (Some c.args.command.now) answer database
+      (subst (λ (a : Answer). Completes page_reading StandsFor d0 d1 ws (Some c.args.command.now) a (FitsWorlds database d1)) answer_is (c.command-reply.ensures.does told ws fit stand))
+      (command_causes d0 d1 (g.H.Host.faults c.args.host.now) (g.H.Host.faults c.command-reply.new.host) ws c.args.kernel.now.database fit c.args.command.now c.command-reply.result
+      (c.command-reply.ensures.takes.keeps told).later c.command-reply.ensures.takes.later c.command-reply.ensures.takes.cause (c.command-reply.ensures.takes.past_end told) (c.command-reply.ensures.takes.in_reach told)) c.say_reply-in_default.ensures.faults (c.say_reply-in_default.ensures.speaks told) c.say_reply-in_default.result
+      (on_ok c.say_reply-in_default.result _ (d2.said d2.now ≡ d1.said d1.now ++ text_of answer) (λ said. said told) c.say_reply-in_default.ensures.said);
+  later = search rules;
+  say_cause = search rules;
+}
