@@ -13,3 +13,5 @@ mod Answering
 mod RowLines
 mod AnyLine
 mod OtherLines
+mod MediaLines
+mod MediaShown

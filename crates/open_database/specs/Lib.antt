@@ -11,3 +11,4 @@ pub mod Stage
 pub mod Saving
 pub mod RowLines
 pub mod Scanning
+pub mod Media

@@ -6,6 +6,7 @@ mod commit;
 pub mod database;
 mod group;
 mod lines;
+mod media;
 mod opening;
 mod rows;
 mod sizes;

@@ -16,6 +16,10 @@ use mdb_host::{Device, Failed, Host};
 use mdb_model::fault::{Damage, PageFault, Rule};
 use mdb_model::limits::{GROUP_HEAD, LONGEST_GROUP, OPEN_GATE};
 use mdb_model::name::Name;
+
+// How many bytes are read at once at the gate of a group: those of a commit of a few rows.
+const FRONT: usize = 512;
+
 /// Reads the groups of a log from a position on, up to the first closed gate.
 #[derive(Clone, Copy, Debug, PartialEq, Eq)]
 pub struct RingReader {
@@ -61,7 +65,7 @@ impl RingReader {
             → Rose (H.faults host.old) (H.faults host.new) }
         ensures say_faults { H.say_faults host.new ≡ H.say_faults host.old }
     {
-        let mut head = [0u8; GROUP_HEAD];
+        let mut head = [0u8; FRONT];
         let Ok(()) = read_ring(host, self.size, self.position, &mut head) else {
             return Err(PageFault::Failed);
         };
@@ -72,7 +76,7 @@ impl RingReader {
         if !self.has_room(bytes) {
             return Err(self.damage());
         }
-        let Ok(()) = read_group(host, self.size, self.position, bytes, into) else {
+        let Ok(()) = read_whole(host, self.size, self.position, &head, bytes, into) else {
             return Err(PageFault::Failed);
         };
         if !is_due(into.bytes(), self.name, self.number + 1) {
@@ -248,6 +252,37 @@ fn read_more<H: Host>(
     let (bytes, _) = piece.split_at_mut(count);
     read_ring(host, size, position, bytes)?;
     into.append(bytes);
+    Ok(())
+}
+
+// Reads so many bytes of the ring, where those in front were read already: a small group is among
+// them.
+fn read_whole<H: Host>(
+    host: &mut H,
+    size: u64,
+    position: u64,
+    front: &[u8],
+    bytes: u64,
+    into: &mut GroupBuf,
+) -> Result<(), Failed>
+    requires size { IsRingSize size }
+    requires low { position < 2 ^ 63 }
+    requires room { bytes ≤ 1048576 }
+    requires ring { H.tells → HasRing size (H.disk host.old).seen }
+    requires there { H.tells → HasBytesAt (ring_byte size (H.disk host.old).seen) position
+        front.now }
+    ensures reads { ReadsOnly H.Host host.old host.new }
+    ensures len { OnOk result (length into.new ≡ bytes) }
+    ensures bytes { OnOk result (H.tells
+        → HasBytesAt (ring_byte size (H.disk host.old).seen) position into.new) }
+    ensures cause { HasCause (H.faults host.old) (H.faults host.new) result }
+{
+    let front = match front.get(..bytes as usize) {
+        Some(front) => front,
+        None => return read_group(host, size, position, bytes, into),
+    };
+    into.clear();
+    into.append(front);
     Ok(())
 }
 
